@@ -1,0 +1,81 @@
+-- A word as fields of k bits and back: each undoes the other, a place of the word is a place of a field, and the distance of two words is
+-- the sum over their fields. Assumes nothing.
+use mathlib.Core.Path.{_≡_, refl, sym, ap, ap₂, _∙_, subst}
+use mathlib.Core.List.{List, [], _∷_}
+use Prim.Native.Nat.{ℕ, zero, suc, _+_, _*_, _/_, _%_, _^_, _<_}
+use native.Mathlib.Nat.{mod-lt, le-of-suc-le-suc, not-suc-le-zero, suc-mul, add-comm, zero-mul}
+use native.Mathlib.Omega.{arith}
+use lib.ListN.{length, getD}
+use lib.Arith.{digits-lt, lt-one}
+use lib.Pow.{pow-pos, pow-add, shr-lt, split, high, low}
+use lib.Bits.{bitXor, xor-block, xor-lt}
+use lib.Count.{ones, ones-cat}
+use Rattle.words.specs.Word.{bit, dist, sumTo}
+use Rattle.words.specs.Fields.{fields, joined}
+use Rattle.words.proofs.Bit.{bit-low, bit-shr}
+use Rattle.words.proofs.Dist.{dist-self}
+
+-- each field has k bits
+abbrev pub Below : ℕ → List ℕ → Type 0
+Below k xs = (i : ℕ) → getD xs i 0 < 2 ^ k
+
+-- ---- there and back
+
+pub length-fields : (k n w : ℕ) → length (fields k n w) ≡ n
+length-fields k zero w = refl
+length-fields k (suc n) w = ap suc (length-fields k n (w / 2 ^ k))
+
+pub fields-below : (k n w : ℕ) → Below k (fields k n w)
+fields-below k zero w i = pow-pos k
+fields-below k (suc n) w zero = mod-lt w (pow-pos k)
+fields-below k (suc n) w (suc i) = fields-below k n (w / 2 ^ k) i
+
+pub joined-lt : (k : ℕ) (xs : List ℕ) → Below k xs → joined k xs < 2 ^ (length xs * k)
+joined-lt k [] h = subst (λ (m : ℕ). 0 < 2 ^ m) (sym (zero-mul k)) (pow-pos 0)
+joined-lt k (x ∷ xs) h =
+    subst (λ (m : ℕ). joined k xs * 2 ^ k + x < m) (sym (ap (λ (m : ℕ). 2 ^ m) (suc-mul (length xs) k) ∙ pow-add 2 (length xs * k) k))
+    (digits-lt (joined-lt k xs (λ i. h (suc i))) (h 0))
+
+pub joined-fields : (k n w : ℕ) → w < 2 ^ (n * k) → joined k (fields k n w) ≡ w
+joined-fields k zero w h = sym (lt-one (subst (λ (m : ℕ). w < 2 ^ m) (zero-mul k) h))
+joined-fields k (suc n) w h =
+    ap (λ (m : ℕ). m * 2 ^ k + w % 2 ^ k)
+    (joined-fields k n (w / 2 ^ k) (shr-lt (n * k) k (subst (λ (m : ℕ). w < 2 ^ m) (suc-mul n k) h)))
+    ∙ split w k
+
+pub fields-joined : (k : ℕ) (xs : List ℕ) → Below k xs → fields k (length xs) (joined k xs) ≡ xs
+fields-joined k [] h = refl
+fields-joined k (x ∷ xs) h =
+    ap₂ {C = List ℕ} (λ (a b : ℕ). a ∷ fields k (length xs) b) (low (joined k xs) k (h 0)) (high (joined k xs) k (h 0))
+    ∙ ap {B = List ℕ} (λ l. x ∷ l) (fields-joined k xs (λ i. h (suc i)))
+
+-- ---- the distance is the sum over the fields
+
+dist-cat : (k a b x y : ℕ) → x < 2 ^ k → y < 2 ^ k → dist (a * 2 ^ k + x) (b * 2 ^ k + y) ≡ dist x y + dist a b
+unfolding dist
+dist-cat k a b x y p q =
+    ap ones (xor-block k a b x y p q) ∙ ones-cat k (bitXor a b) (bitXor x y) (xor-lt k x y p q) ∙ add-comm (ones (bitXor a b)) (ones (bitXor x y))
+
+joined-dist : (k : ℕ) (xs ys : List ℕ) → length xs ≡ length ys → Below k xs → Below k ys
+    → dist (joined k xs) (joined k ys) ≡ sumTo (length xs) (λ i. dist (getD xs i 0) (getD ys i 0))
+joined-dist k [] [] e hx hy = dist-self 0
+joined-dist k [] (y ∷ ys) e hx hy = absurd (omega (arith, e))
+joined-dist k (x ∷ xs) [] e hx hy = absurd (omega (arith, e))
+joined-dist k (x ∷ xs) (y ∷ ys) e hx hy =
+    dist-cat k (joined k xs) (joined k ys) x y (hx 0) (hy 0)
+    ∙ ap (λ (m : ℕ). dist x y + m) (joined-dist k xs ys (omega (arith, e)) (λ i. hx (suc i)) (λ i. hy (suc i)))
+
+pub dist-fields : (k n a b : ℕ) → a < 2 ^ (n * k) → b < 2 ^ (n * k)
+    → dist a b ≡ sumTo n (λ i. dist (getD (fields k n a) i 0) (getD (fields k n b) i 0))
+dist-fields k n a b ha hb =
+    sym (ap₂ dist (joined-fields k n a ha) (joined-fields k n b hb))
+    ∙ joined-dist k (fields k n a) (fields k n b) (length-fields k n a ∙ sym (length-fields k n b)) (fields-below k n a) (fields-below k n b)
+    ∙ ap (λ (m : ℕ). sumTo m (λ i. dist (getD (fields k n a) i 0) (getD (fields k n b) i 0))) (length-fields k n a)
+
+-- ---- a place of the word is a place of a field
+
+pub bit-fields : (k n w r c : ℕ) → r < n → c < k → bit w (k * r + c) ≡ bit (getD (fields k n w) r 0) c
+bit-fields k zero w r c hr hc = absurd (not-suc-le-zero hr)
+bit-fields k (suc n) w zero c hr hc = ap (bit w) (omega arith) ∙ sym (bit-low k w c hc)
+bit-fields k (suc n) w (suc r) c hr hc =
+    ap (bit w) (omega arith) ∙ sym (bit-shr k w (k * r + c)) ∙ bit-fields k n (w / 2 ^ k) r c (le-of-suc-le-suc hr) hc

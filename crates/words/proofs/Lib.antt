@@ -1,0 +1,7 @@
+pub mod Bit
+pub mod Xor
+pub mod Sum
+pub mod Dist
+pub mod Fields
+pub mod Test
+pub mod Linear

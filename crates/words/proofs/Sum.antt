@@ -1,0 +1,54 @@
+-- Sums and parities over places: equal where the terms are, in order where the terms are. Assumes nothing.
+use mathlib.Core.Path.{_≡_, refl, sym, ap, ap₂, _∙_}
+use mathlib.Core.List.{List, [], _∷_}
+use mathlib.Core.Bool.{Bool, true, false}
+use Prim.Native.Nat.{ℕ, zero, suc, _+_, _%_, _≤_, _<_, suc-le-suc}
+use native.Mathlib.Nat.{zero-lt-suc}
+use native.Mathlib.Omega.{arith}
+use lib.Dec.{T, ltb, ltb→lt}
+use Rattle.words.specs.Word.{sumTo, sumOver, parity}
+use Rattle.words.proofs.Test.{every, both-left, both-right}
+
+pub sum-eq : (n : ℕ) (f g : ℕ → ℕ) → ((i : ℕ) → i < n → f i ≡ g i) → sumTo n f ≡ sumTo n g
+sum-eq zero f g h = refl
+sum-eq (suc n) f g h = ap₂ (λ (x y : ℕ). x + y) (h 0 (zero-lt-suc n)) (sum-eq n (λ i. f (suc i)) (λ i. g (suc i)) (λ i l. h (suc i) (suc-le-suc l)))
+
+pub sum-le : (n : ℕ) (f g : ℕ → ℕ) → ((i : ℕ) → i < n → f i ≤ g i) → sumTo n f ≤ sumTo n g
+sum-le zero f g h = omega arith
+sum-le (suc n) f g h = omega (arith, h 0 (zero-lt-suc n), sum-le n (λ i. f (suc i)) (λ i. g (suc i)) (λ i l. h (suc i) (suc-le-suc l)))
+
+-- a sum that is 0 has no other term
+pub sum-zero : (n : ℕ) (f : ℕ → ℕ) → sumTo n f ≡ 0 → (i : ℕ) → i < n → f i ≡ 0
+sum-zero zero f e i h = absurd (omega arith)
+sum-zero (suc n) f e zero h = omega arith
+sum-zero (suc n) f e (suc i) h = sum-zero n (λ i. f (suc i)) (omega arith) i (omega arith)
+
+-- ---- parities
+
+parity-step : (x y p q : ℕ) → p ≡ (x + y) % 2 → (p + q) % 2 ≡ (x + y + q) % 2
+parity-step x y p q e = omega arith
+
+parity-move : (x y a b r : ℕ) → r % 2 ≡ (a + b) % 2 → (x + y + r) % 2 ≡ (x + a + (y + b)) % 2
+parity-move x y a b r e = omega arith
+
+sum-parity : (f g h : ℕ → ℕ) → ((i : ℕ) → h i ≡ (f i + g i) % 2) → (is : List ℕ) → sumOver h is % 2 ≡ (sumOver f is + sumOver g is) % 2
+sum-parity f g h e [] = refl
+sum-parity f g h e (i ∷ is) =
+    parity-step (f i) (g i) (h i) (sumOver h is) (e i) ∙ parity-move (f i) (g i) (sumOver f is) (sumOver g is) (sumOver h is) (sum-parity f g h e is)
+
+-- the parity of a place by place sum is the sum of the parities
+pub parity-sum : (f g h : ℕ → ℕ) → ((i : ℕ) → h i ≡ (f i + g i) % 2) → (is : List ℕ) → parity h is ≡ (parity f is + parity g is) % 2
+parity-sum f g h e is = sum-parity f g h e is ∙ mods (sumOver f is) (sumOver g is)
+  where
+    mods : (x y : ℕ) → (x + y) % 2 ≡ (x % 2 + y % 2) % 2
+    mods x y = omega arith
+
+none-set : (n : ℕ) (f : ℕ → ℕ) → ((i : ℕ) → i < n → f i ≡ 0) → (is : List ℕ) → T (every (λ i. ltb i n) is) → sumOver f is ≡ 0
+none-set n f h [] t = refl
+none-set n f h (i ∷ is) t =
+    ap₂ (λ (x y : ℕ). x + y) (h i (ltb→lt i n (both-left (ltb i n) (every (λ i. ltb i n) is) t)))
+    (none-set n f h is (both-right (ltb i n) (every (λ i. ltb i n) is) t))
+
+-- a parity over places below n, none of which is set
+pub parity-zero : (n : ℕ) (f : ℕ → ℕ) → ((i : ℕ) → i < n → f i ≡ 0) → (is : List ℕ) → T (every (λ i. ltb i n) is) → parity f is ≡ 0
+parity-zero n f h is t = ap (λ (x : ℕ). x % 2) (none-set n f h is t)
