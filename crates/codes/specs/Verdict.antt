@@ -1,0 +1,89 @@
+-- The verdict on a word that was read, as document 01 defines it: one definition for every code. Assumes nothing.
+use mathlib.Core.Path.{_≡_}
+use mathlib.Core.Logic.{_≢_}
+use mathlib.Core.Bool.{Bool, true, false}
+use Prim.Native.Nat.{ℕ, zero, suc, _≤_, _<_}
+use lib.Dec.{leb, ltb, eqb}
+use Rattle.words.specs.Word.{dist}
+
+-- A code: how many data values it has (they are the numbers below that), the codeword of each, and the radius.
+pub record Code : Type 0 where
+  pub values : ℕ
+  pub encode : ℕ → ℕ
+  pub radius : ℕ
+
+-- clean d: the data is d. mended d n: the data is d, after n flips.
+pub data Verdict : Type 0 where
+  clean : ℕ → Verdict
+  mended : ℕ → ℕ → Verdict
+  lost : Verdict
+  tie : Verdict
+
+-- in how many places the word w differs from the codeword of d
+abbrev pub off : Code → ℕ → ℕ → ℕ
+off C w d = dist w (C .encode d)
+
+-- ---- the definition
+
+-- n is the least number of places in which w differs from a codeword
+pub record Least (C : Code) (w n : ℕ) : Type 0 where
+  pub some : (d : ℕ) × (d < C .values) × (off C w d ≡ n)
+  pub least : (d : ℕ) → d < C .values → n ≤ off C w d
+
+-- two codewords are at n
+pub record Two (C : Code) (w n : ℕ) : Type 0 where
+  pub first : ℕ
+  pub second : ℕ
+  pub apart : first ≢ second
+  pub values : (first < C .values) × (second < C .values)
+  pub at : (off C w first ≡ n) × (off C w second ≡ n)
+
+-- the codeword of d is at n, and every other is further off
+pub record Alone (C : Code) (w d n : ℕ) : Type 0 where
+  pub value : d < C .values
+  pub at : off C w d ≡ n
+  pub others : (e : ℕ) → e < C .values → e ≢ d → n < off C w e
+
+-- Let n be the least number of places in which the word read differs from a codeword. If n is over the radius: lost. If two codewords are at
+-- n and n is within the radius: tie. Otherwise the codeword is the answer: clean if n = 0, mended with n flips if not.
+abbrev pub Is : Code → ℕ → Verdict → Type 0
+Is C w (clean d) = Alone C w d 0
+Is C w (mended d n) = Alone C w d n × (0 < n) × (n ≤ C .radius)
+Is C w lost = (n : ℕ) → Least C w n → C .radius < n
+Is C w tie = (n : ℕ) × Least C w n × (n ≤ C .radius) × Two C w n
+
+-- ---- the same as a function (`verdict-is`, `one-verdict`): the data values are gone through, and what is nearest is kept
+
+-- nothing seen yet; the codeword of d at n; two or more at n
+pub data Nearest : Type 0 where
+  none : Nearest
+  one : ℕ → ℕ → Nearest
+  several : ℕ → Nearest
+
+abbrev pub choose : {A : Type 0} → Bool → A → A → A
+choose true a b = a
+choose false a b = b
+
+-- one more codeword, that of d, at n
+unfoldable pub nearer : ℕ → ℕ → Nearest → Nearest
+nearer d n none = one d n
+nearer d n (one e m) = choose (ltb n m) (one d n) (choose (eqb n m) (several m) (one e m))
+nearer d n (several m) = choose (ltb n m) (one d n) (several m)
+
+-- of the codewords of 0 to k - 1, where that of d is at f d
+unfoldable pub nearest : (ℕ → ℕ) → ℕ → Nearest
+nearest f zero = none
+nearest f (suc k) = nearer k (f k) (nearest f k)
+
+-- clean or mended, by the flips
+abbrev pub answered : ℕ → ℕ → Verdict
+answered d zero = clean d
+answered d (suc n) = mended d (suc n)
+
+abbrev pub judged : ℕ → Nearest → Verdict
+judged radius none = lost
+judged radius (one d n) = choose (leb n radius) (answered d n) lost
+judged radius (several n) = choose (leb n radius) tie lost
+
+unfoldable pub verdict : Code → ℕ → Verdict
+verdict C w = judged (C .radius) (nearest (off C w) (C .values))
