@@ -1,2 +1,5 @@
 pub mod Verdict
 pub mod Promises
+pub mod Product
+pub mod Trials
+pub mod Address

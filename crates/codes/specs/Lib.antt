@@ -1,2 +1,4 @@
 pub mod Verdict
 pub mod Promises
+pub mod Product
+pub mod Address
