@@ -2,7 +2,7 @@
 -- is large enough. Assumes nothing.
 use mathlib.Core.Path.{_≡_}
 use mathlib.Core.Logic.{_≢_}
-use Prim.Native.Nat.{ℕ, _+_, _≤_, _<_}
+use Prim.Native.Nat.{ℕ, _+_, _^_, _≤_, _<_}
 use lib.Bits.{bitXor}
 use lib.Count.{ones}
 use Rattle.words.specs.Word.{dist}
@@ -47,3 +47,12 @@ pub record Promises (C : Code) : Type 0 where
 -- one flip more than the radius is never taken for another codeword: it is always lost
 abbrev pub OneMoreIsLost : Code → Type 0
 OneMoreIsLost C = (d p : ℕ) → d < C .values → ones p ≡ C .radius + 1 → verdict C (bitXor (C .encode d) p) ≡ lost
+
+-- What a code's own constants say of it: its radius, its length in places, and the distance, which two of its codewords have and no two
+-- undercut.
+pub record States (C : Code) (radius length distance : ℕ) : Type 0 where
+  pub radius-is : radius ≡ C .radius
+  pub length-is : length ≡ C .length
+  pub fits : (d : ℕ) → d < C .values → C .encode d < 2 ^ C .length
+  pub apart : Distance C distance
+  pub reached : (d : ℕ) × (e : ℕ) × (d < C .values) × (e < C .values) × (d ≢ e) × (dist (C .encode d) (C .encode e) ≡ distance)

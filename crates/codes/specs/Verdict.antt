@@ -6,10 +6,11 @@ use Prim.Native.Nat.{ℕ, zero, suc, _≤_, _<_}
 use lib.Dec.{leb, ltb, eqb}
 use Rattle.words.specs.Word.{dist}
 
--- A code: how many data values it has (they are the numbers below that), the codeword of each, and the radius.
+-- A code: how many data values it has (they are the numbers below that), the codeword of each, how many places a word has, and the radius.
 pub record Code : Type 0 where
   pub values : ℕ
   pub encode : ℕ → ℕ
+  pub length : ℕ
   pub radius : ℕ
 
 -- clean d: the data is d. mended d n: the data is d, after n flips.

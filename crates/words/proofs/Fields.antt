@@ -3,12 +3,12 @@
 use mathlib.Core.Path.{_≡_, refl, sym, ap, ap₂, _∙_, subst}
 use mathlib.Core.List.{List, [], _∷_}
 use Prim.Native.Nat.{ℕ, zero, suc, _+_, _*_, _/_, _%_, _^_, _<_}
-use native.Mathlib.Nat.{mod-lt, le-of-suc-le-suc, not-suc-le-zero, suc-mul, add-comm, zero-mul}
+use native.Mathlib.Nat.{mod-lt, le-of-suc-le-suc, not-suc-le-zero, suc-mul, add-comm, zero-mul, mod-eq-of-lt}
 use native.Mathlib.Omega.{arith}
 use lib.ListN.{length, getD}
 use lib.Arith.{digits-lt, lt-one}
-use lib.Pow.{pow-pos, pow-add, shr-lt, split, high, low}
-use lib.Bits.{bitXor, xor-block, xor-lt}
+use lib.Pow.{pow-pos, pow-add, shl-lt, shr-lt, split, high, low}
+use lib.Bits.{bitXor, bitOr, or-shifted, xor-block, xor-lt}
 use lib.Count.{ones, ones-cat}
 use Rattle.words.specs.Word.{bit, dist, sumTo}
 use Rattle.words.specs.Fields.{fields, joined}
@@ -48,6 +48,26 @@ fields-joined k [] h = refl
 fields-joined k (x ∷ xs) h =
     ap₂ {C = List ℕ} (λ (a b : ℕ). a ∷ fields k (length xs) b) (low (joined k xs) k (h 0)) (high (joined k xs) k (h 0))
     ∙ ap {B = List ℕ} (λ l. x ∷ l) (fields-joined k xs (λ i. h (suc i)))
+
+-- a list by its elements
+abbrev pub listed : ℕ → (ℕ → ℕ) → List ℕ
+listed zero f = []
+listed (suc n) f = f 0 ∷ listed n (λ i. f (suc i))
+
+listed-all : (xs : List ℕ) → xs ≡ listed (length xs) (λ i. getD xs i 0)
+listed-all [] = refl
+listed-all (x ∷ xs) = ap {B = List ℕ} (λ l. x ∷ l) (listed-all xs)
+
+pub listed-getD : (n : ℕ) (xs : List ℕ) → length xs ≡ n → xs ≡ listed n (λ i. getD xs i 0)
+listed-getD n xs e = listed-all xs ∙ ap (λ (m : ℕ). listed m (λ i. getD xs i 0)) e
+
+-- ---- a word put together from two parts, by a shift and an or
+
+pub side-by-side : (j k : ℕ) {a b : ℕ} → a < 2 ^ j → b < 2 ^ k → bitOr (a * 2 ^ k % 2 ^ (j + k)) b ≡ a * 2 ^ k + b
+side-by-side j k {a} {b} ha hb = ap (λ (x : ℕ). bitOr x b) (mod-eq-of-lt (shl-lt j k ha)) ∙ or-shifted a k b hb
+
+pub both-parts : (j k w : ℕ) → w < 2 ^ (j + k) → bitOr (w / 2 ^ k * 2 ^ k % 2 ^ (j + k)) (w % 2 ^ k) ≡ w
+both-parts j k w h = side-by-side j k (shr-lt j k h) (mod-lt w (pow-pos k)) ∙ split w k
 
 -- ---- the distance is the sum over the fields
 

@@ -2,50 +2,66 @@
 -- are linear, so a map made of them is known from its values at single places. Assumes nothing.
 use mathlib.Core.Path.{_≡_, refl, sym, ap, ap₂, _∙_, subst}
 use mathlib.Core.Logic.{_⊎_, inl, inr}
-use mathlib.Core.Bool.{Bool}
 use mathlib.Core.List.{List, [], _∷_}
 use Prim.Native.Nat.{ℕ, zero, suc, _+_, _*_, _/_, _%_, _^_, _≤_, _<_}
 use native.Mathlib.Nat.{mod-lt, zero-lt-suc, le-refl, zero-mul, one-mul, zero-add}
 use native.Mathlib.Numerals.{one-add}
 use native.Mathlib.Omega.{arith}
-use lib.Dec.{T, eqb}
-use lib.ListN.{length, getD}
+use lib.ListN.{getD}
 use lib.Arith.{lt-one}
 use lib.Pow.{pow-pos, shr-lt, split}
 use lib.Bits.{bitXor, bitAnd, differ, xor-self, xor-zero-r, xor-shr, xor-mod, xor-shifted}
 use Rattle.words.specs.Word.{bit, picked, combined}
+use Rattle.words.specs.Fields.{fields}
 use Rattle.words.proofs.Bit.{by-bit, bit-lt, bit-xor, bit-zero, bit-half}
-use Rattle.words.proofs.Test.{allBelow, same-below}
 use Rattle.words.proofs.Xor.{xor-swap, xor-shl, xor-mask}
 
-abbrev pub Linear : (ℕ → ℕ) → Type 0
-Linear f = (a b : ℕ) → f (bitXor a b) ≡ bitXor (f a) (f b)
+pub record Linear (f : ℕ → ℕ) : Type 0 where
+  pub sum : (a b : ℕ) → f (bitXor a b) ≡ bitXor (f a) (f b)
 
 -- ---- what is linear
 
-module _ (f : ℕ → ℕ) (l : Linear f) where
+pub same-linear : Linear (λ x. x)
+same-linear = record { sum = λ a b. refl }
+
+pub zero-linear : Linear (λ x. 0)
+zero-linear = record { sum = λ a b. refl }
+
+module _ {f : ℕ → ℕ} (l : Linear f) where
   pub shr-linear : (k : ℕ) → Linear (λ x. f x / 2 ^ k)
-  shr-linear k a b = ap (λ (x : ℕ). x / 2 ^ k) (l a b) ∙ xor-shr (f a) (f b) k
+  shr-linear k = record { sum = λ a b. ap (λ (x : ℕ). x / 2 ^ k) (l .sum a b) ∙ xor-shr (f a) (f b) k }
 
   pub low-linear : (k : ℕ) → Linear (λ x. f x % 2 ^ k)
-  low-linear k a b = ap (λ (x : ℕ). x % 2 ^ k) (l a b) ∙ xor-mod (f a) (f b) k
+  low-linear k = record { sum = λ a b. ap (λ (x : ℕ). x % 2 ^ k) (l .sum a b) ∙ xor-mod (f a) (f b) k }
 
   -- a shift up in a word of w bits
   pub shl-linear : (k w : ℕ) → Linear (λ x. f x * 2 ^ k % 2 ^ w)
-  shl-linear k w a b =
-      ap (λ (x : ℕ). x * 2 ^ k % 2 ^ w) (l a b) ∙ ap (λ (x : ℕ). x % 2 ^ w) (xor-shl k (f a) (f b)) ∙ xor-mod (f a * 2 ^ k) (f b * 2 ^ k) w
+  shl-linear k w = record {
+    sum = λ a b.
+        ap (λ (x : ℕ). x * 2 ^ k % 2 ^ w) (l .sum a b) ∙ ap (λ (x : ℕ). x % 2 ^ w) (xor-shl k (f a) (f b))
+        ∙ xor-mod (f a * 2 ^ k) (f b * 2 ^ k) w;
+  }
 
   pub mask-linear : (m : ℕ) → Linear (λ x. bitAnd (f x) m)
-  mask-linear m a b = ap (λ (x : ℕ). bitAnd x m) (l a b) ∙ xor-mask (f a) (f b) m
+  mask-linear m = record { sum = λ a b. ap (λ (x : ℕ). bitAnd x m) (l .sum a b) ∙ xor-mask (f a) (f b) m }
 
-  pub linear-zero : f 0 ≡ 0
-  linear-zero = l 0 0 ∙ xor-self (f 0)
+  pub xor-linear : {g : ℕ → ℕ} → Linear g → Linear (λ x. bitXor (f x) (g x))
+  xor-linear {g} m = record { sum = λ a b. ap₂ bitXor (l .sum a b) (m .sum a b) ∙ xor-swap (f a) (f b) (g a) (g b) }
 
-  pub xor-linear : (g : ℕ → ℕ) → Linear g → Linear (λ x. bitXor (f x) (g x))
-  xor-linear g m a b = ap₂ bitXor (l a b) (m a b) ∙ xor-swap (f a) (f b) (g a) (g b)
+  -- f first, then g
+  pub then-linear : {g : ℕ → ℕ} → Linear g → Linear (λ x. g (f x))
+  then-linear {g} m = record { sum = λ a b. ap g (l .sum a b) ∙ m .sum (f a) (f b) }
 
-  pub after-linear : (g : ℕ → ℕ) → Linear g → Linear (λ x. g (f x))
-  after-linear g m a b = ap g (l a b) ∙ m (f a) (f b)
+  linear-zero : f 0 ≡ 0
+  linear-zero = l .sum 0 0 ∙ xor-self (f 0)
+
+field-sum : (k n i a b : ℕ) → getD (fields k n (bitXor a b)) i 0 ≡ bitXor (getD (fields k n a) i 0) (getD (fields k n b) i 0)
+field-sum k zero i a b = refl
+field-sum k (suc n) zero a b = xor-mod a b k
+field-sum k (suc n) (suc i) a b = ap (λ (x : ℕ). getD (fields k n x) i 0) (xor-shr a b k) ∙ field-sum k n i (a / 2 ^ k) (b / 2 ^ k)
+
+pub field-linear : (k n i : ℕ) → Linear (λ x. getD (fields k n x) i 0)
+field-linear k n i = record { sum = field-sum k n i }
 
 -- ---- entries of set places
 
@@ -64,7 +80,7 @@ combined-differ (h ∷ hs) f g e p q r =
     ∙ xor-swap (picked (f 0) h) (picked (g 0) h) (combined hs (λ i. f (suc i))) (combined hs (λ i. g (suc i)))
 
 pub combined-linear : (hs : List ℕ) → Linear (λ x. combined hs (bit x))
-combined-linear hs a b = combined-differ hs (bit a) (bit b) (bit (bitXor a b)) (bit-lt a) (bit-lt b) (bit-xor a b)
+combined-linear hs = record { sum = λ a b. combined-differ hs (bit a) (bit b) (bit (bitXor a b)) (bit-lt a) (bit-lt b) (bit-xor a b) }
 
 -- ---- known at single places, known everywhere
 
@@ -85,8 +101,7 @@ by-places P z s (suc n) p x h = go (by-places P z s n (λ k l. p k (omega arith)
     go r (inl e) = subst P (sym e) r
     go r (inr e) = subst P (sym e) (s (2 ^ n) (x % 2 ^ n) (p n (le-refl (suc n))) r)
 
--- two linear maps that agree at each place below n agree on all words of n bits: the places are computed
-pub linear-agree : (f g : ℕ → ℕ) → Linear f → Linear g → (n : ℕ) → T (allBelow n (λ k. eqb (f (2 ^ k)) (g (2 ^ k)))) → (x : ℕ) → x < 2 ^ n → f x ≡ g x
-linear-agree f g l m n t =
-    by-places (λ (x : ℕ). f x ≡ g x) (linear-zero f l ∙ sym (linear-zero g m)) (λ a b p q. l a b ∙ ap₂ bitXor p q ∙ sym (m a b)) n
-    (same-below n (λ k. f (2 ^ k)) (λ k. g (2 ^ k)) t)
+-- two linear maps that agree at each place below n agree on all words of n bits
+pub linear-agree : {f g : ℕ → ℕ} → Linear f → Linear g → (n : ℕ) → ((k : ℕ) → k < n → f (2 ^ k) ≡ g (2 ^ k)) → (x : ℕ) → x < 2 ^ n → f x ≡ g x
+linear-agree {f} {g} l m n =
+    by-places (λ (x : ℕ). f x ≡ g x) (linear-zero l ∙ sym (linear-zero m)) (λ a b p q. l .sum a b ∙ ap₂ bitXor p q ∙ sym (m .sum a b)) n

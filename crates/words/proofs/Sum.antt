@@ -3,8 +3,10 @@ use mathlib.Core.Path.{_≡_, refl, sym, ap, ap₂, _∙_}
 use mathlib.Core.List.{List, [], _∷_}
 use mathlib.Core.Bool.{Bool, true, false}
 use Prim.Native.Nat.{ℕ, zero, suc, _+_, _%_, _≤_, _<_, suc-le-suc}
-use native.Mathlib.Nat.{zero-lt-suc}
+use native.Mathlib.Nat.{zero-lt-suc, le-of-suc-le-suc}
+use native.Mathlib.Decide.{ℕ-discrete}
 use native.Mathlib.Omega.{arith}
+use lib.Arith.{lt-of-le-ne}
 use lib.Dec.{T, ltb, ltb→lt}
 use Rattle.words.specs.Word.{sumTo, sumOver, parity}
 use Rattle.words.proofs.Test.{every, both-left, both-right}
@@ -37,11 +39,15 @@ sum-parity f g h e (i ∷ is) =
     parity-step (f i) (g i) (h i) (sumOver h is) (e i) ∙ parity-move (f i) (g i) (sumOver f is) (sumOver g is) (sumOver h is) (sum-parity f g h e is)
 
 -- the parity of a place by place sum is the sum of the parities
-pub parity-sum : (f g h : ℕ → ℕ) → ((i : ℕ) → h i ≡ (f i + g i) % 2) → (is : List ℕ) → parity h is ≡ (parity f is + parity g is) % 2
+parity-sum : (f g h : ℕ → ℕ) → ((i : ℕ) → h i ≡ (f i + g i) % 2) → (is : List ℕ) → parity h is ≡ (parity f is + parity g is) % 2
 parity-sum f g h e is = sum-parity f g h e is ∙ mods (sumOver f is) (sumOver g is)
   where
     mods : (x y : ℕ) → (x + y) % 2 ≡ (x % 2 + y % 2) % 2
     mods x y = omega arith
+
+-- two words that meet a parity equation: so does their place by place sum
+pub parity-rule : (f g h : ℕ → ℕ) → ((i : ℕ) → h i ≡ (f i + g i) % 2) → (t : ℕ) (is : List ℕ) → f t ≡ parity f is → g t ≡ parity g is → h t ≡ parity h is
+parity-rule f g h e t is p q = e t ∙ ap₂ (λ (x y : ℕ). (x + y) % 2) p q ∙ sym (parity-sum f g h e is)
 
 none-set : (n : ℕ) (f : ℕ → ℕ) → ((i : ℕ) → i < n → f i ≡ 0) → (is : List ℕ) → T (every (λ i. ltb i n) is) → sumOver f is ≡ 0
 none-set n f h [] t = refl
@@ -50,5 +56,13 @@ none-set n f h (i ∷ is) t =
     (none-set n f h is (both-right (ltb i n) (every (λ i. ltb i n) is) t))
 
 -- a parity over places below n, none of which is set
-pub parity-zero : (n : ℕ) (f : ℕ → ℕ) → ((i : ℕ) → i < n → f i ≡ 0) → (is : List ℕ) → T (every (λ i. ltb i n) is) → parity f is ≡ 0
+parity-zero : (n : ℕ) (f : ℕ → ℕ) → ((i : ℕ) → i < n → f i ≡ 0) → (is : List ℕ) → T (every (λ i. ltb i n) is) → parity f is ≡ 0
 parity-zero n f h is t = ap (λ (x : ℕ). x % 2) (none-set n f h is t)
+
+-- places below n are not set, and place n is a parity of such: so places up to n are not set
+pub zero-next : (n : ℕ) (f : ℕ → ℕ) (is : List ℕ) → T (every (λ i. ltb i n) is) → ((i : ℕ) → i < n → f i ≡ 0) → f n ≡ parity f is → (i : ℕ) → i < suc n → f i ≡ 0
+zero-next n f is t h e i l = go (ℕ-discrete i n)
+  where
+    go : Dec (i ≡ n) → f i ≡ 0
+    go (yes q) = ap f q ∙ e ∙ parity-zero n f h is t
+    go (no q) = h i (lt-of-le-ne (le-of-suc-le-suc l) q)

@@ -1,0 +1,69 @@
+-- `grid::upper` meets its contract: both sides are linear in the data, and agree at each data bit. Assumes nothing.
+use mathlib.Core.Path.{ap, _∙_}
+use Prim.Native.Nat.{ℕ, _*_, _/_, _%_, _^_}
+use lib.Bits.{bitAnd, bitXor}
+use Rattle.words.proofs.Linear.{Linear, same-linear, shr-linear, shl-linear, low-linear, mask-linear, xor-linear, then-linear, linear-agree}
+use Rattle.words.proofs.Test.{same-below}
+use Rattle.grid.specs.Code.{codeword}
+use Rattle.grid.proofs.Codeword.{codeword-linear}
+use Rattle.grid.proofs.upper.Statement.{statement}
+use Rattle.grid.proofs.upper.Tie as tie
+
+-- what the code computes
+four : ℕ → ℕ
+four d = bitXor (bitXor d (d / 2)) (d / 4)
+
+five : ℕ → ℕ
+five d = bitXor (bitXor d (d / 4)) (d / 8)
+
+six : ℕ → ℕ
+six d = bitXor (bitXor (d / 2) (d / 4)) (d / 8)
+
+seven : ℕ → ℕ
+seven d = bitXor (bitXor (bitXor (bitXor (bitXor (bitXor d (d / 2)) (d / 4)) (d / 8)) (four d)) (five d)) (six d)
+
+set : ℕ → (ℕ → ℕ) → ℕ → ℕ
+set i f d = bitAnd (f d) 0x0101_0101 * 2 ^ i % 2 ^ 32
+
+made : ℕ → ℕ
+made d = bitXor (bitXor (bitXor (bitXor d (set 4 four d)) (set 5 five d)) (set 6 six d)) (set 7 seven d)
+
+place : (k : ℕ) → Linear (λ d. d / 2 ^ k)
+place = shr-linear same-linear
+
+four-linear : Linear four
+unfolding four
+four-linear = xor-linear (xor-linear same-linear (place 1)) (place 2)
+
+five-linear : Linear five
+unfolding five
+five-linear = xor-linear (xor-linear same-linear (place 2)) (place 3)
+
+six-linear : Linear six
+unfolding six
+six-linear = xor-linear (xor-linear (place 1) (place 2)) (place 3)
+
+seven-linear : Linear seven
+unfolding seven
+seven-linear =
+    xor-linear (xor-linear (xor-linear (xor-linear (xor-linear (xor-linear same-linear (place 1)) (place 2)) (place 3)) four-linear) five-linear) six-linear
+
+set-linear : (i : ℕ) {f : ℕ → ℕ} → Linear f → Linear (set i f)
+unfolding set
+set-linear i l = shl-linear (mask-linear l 0x0101_0101) i 32
+
+made-linear : Linear made
+unfolding made
+made-linear =
+    xor-linear (xor-linear (xor-linear (xor-linear same-linear (set-linear 4 four-linear)) (set-linear 5 five-linear)) (set-linear 6 six-linear))
+    (set-linear 7 seven-linear)
+
+returns : tie.Need-returns
+unfolding codeword four five six seven set made
+returns c d l e =
+    ap made e
+    ∙ linear-agree (then-linear (mask-linear codeword-linear 0x0F0F_0F0F) made-linear) (low-linear codeword-linear 32) 16
+    (same-below 16 (λ k. made (bitAnd (codeword (2 ^ k)) 0x0F0F_0F0F)) (λ k. codeword (2 ^ k) % 2 ^ 32) tt) d l
+
+pub upper-spec : {M : Type 1} → statement M
+upper-spec = tie.close (tie.spec returns)

@@ -1,0 +1,20 @@
+-- What each call of the crate promises: one record a call, which determines the answer. Assumes nothing.
+use mathlib.Core.Path.{_≡_}
+use mathlib.Core.List.{List}
+use Prim.Native.Nat.{ℕ}
+use Rattle.words.specs.Fields.{fields, joined}
+use Rattle.grid.specs.Equations.{Codeword}
+use Rattle.grid.specs.Code.{codeword}
+
+-- `Grid::encode`: the rows of the grid of d, which meets the equations.
+pub record Encoded (d : ℕ) (rows : List ℕ) : Type 0 where
+  pub answer : rows ≡ fields 8 8 (codeword d)
+  pub meets : Codeword d (joined 8 rows)
+
+-- `Grid::number`: row r is byte r, lowest byte first.
+pub record Numbered (rows : List ℕ) (w : ℕ) : Type 0 where
+  pub answer : w ≡ joined 8 rows
+
+-- `Grid::of_number`: the same, back.
+pub record Parted (w : ℕ) (rows : List ℕ) : Type 0 where
+  pub answer : rows ≡ fields 8 8 w

@@ -1,0 +1,3 @@
+pub mod Equations
+pub mod Code
+pub mod Calls

@@ -1,0 +1,119 @@
+// The grid: eight rows of eight places.
+ghost use mathlib.Core.Path.{_≡_};
+ghost use Prim.Native.Nat.{ℕ, _+_, _*_, _/_, _%_, _^_, _<_};
+ghost use lib.Bits.{bitAnd};
+ghost use Rattle.grid.specs.Code.{codeword};
+ghost use Rattle.grid.specs.Calls.{Encoded, Numbered, Parted};
+
+pub struct Grid {
+    pub rows: [u8; 8],
+}
+
+// The data places: data bit k goes to row k / 4, place k mod 4, of rows 0 to 3 as one number.
+fn data_places(value: u16) -> u32
+    ensures { λ r. ⌜ r ≡ bitAnd (codeword value) 0x0F0F_0F0F ⌝ }
+{
+    let v = value as u32;
+    let pairs = (v ^ (v << 8)) & 0x00FF_00FF;
+    (pairs ^ (pairs << 4)) & 0x0F0F_0F0F
+}
+
+// Rows 0 to 3 from their data places, all four at a time: place 4 is the parity of places 0, 1, 2,
+// place 5 of 0, 2, 3, place 6 of 1, 2, 3, and place 7 of all before it.
+fn upper(places: u32) -> u32
+    ensures { λ r. ⌜ ((d : ℕ) → d < 2 ^ 16 → places ≡ bitAnd (codeword d) 0x0F0F_0F0F → r ≡ codeword d % 2 ^ 32) ⌝ }
+{
+    let p1 = places >> 1;
+    let p2 = places >> 2;
+    let p3 = places >> 3;
+    let p4 = places ^ p1 ^ p2;
+    let p5 = places ^ p2 ^ p3;
+    let p6 = p1 ^ p2 ^ p3;
+    let p7 = places ^ p1 ^ p2 ^ p3 ^ p4 ^ p5 ^ p6;
+    let lowest = 0x0101_0101;
+    places
+        ^ ((p4 & lowest) << 4)
+        ^ ((p5 & lowest) << 5)
+        ^ ((p6 & lowest) << 6)
+        ^ ((p7 & lowest) << 7)
+}
+
+// Rows 4 to 7 from rows 0 to 3. Each of them is the parity of all four but one: row 4 leaves out
+// row 2, row 5 row 1, row 6 row 0, and row 7, since rows 4 to 6 add up to row 3, leaves out row 3.
+fn lower(upper: u32) -> u32
+    ensures { λ r. ⌜ ((d : ℕ) → d < 2 ^ 16 → upper ≡ codeword d % 2 ^ 32 → r ≡ codeword d / 2 ^ 32) ⌝ }
+{
+    let pairs = upper ^ (upper << 16) ^ (upper >> 16);
+    let all = pairs ^ (pairs << 8) ^ (pairs >> 24);
+    let left_out = upper ^ (pairs & 0x00FF_00FF);
+    all ^ left_out
+}
+
+// The lowest byte.
+fn byte(w: u64) -> u8
+    ensures { λ r. ⌜ r ≡ w % 256 ⌝ }
+{
+    (w & 255) as u8
+}
+
+// The number whose lowest byte is `row`, with `above` over it.
+fn with_row(above: u64, row: u8) -> u64
+    ensures { λ r. ⌜ (above < 2 ^ 56 → r ≡ above * 2 ^ 8 + row) ⌝ }
+{
+    (above << 8) | (row as u64)
+}
+
+impl Grid {
+    pub const RADIUS: u32 = 7;
+
+    pub const LENGTH: u32 = 64;
+
+    pub const DISTANCE: u32 = 16;
+
+    // The grid of a number.
+    pub fn encode(value: u16) -> Grid
+        ensures { λ r. ⌜ Encoded value (r .rows) ⌝ }
+    {
+        let rows = upper(data_places(value));
+        let checks = lower(rows);
+        Grid::of_number(((checks as u64) << 32) | (rows as u64))
+    }
+
+    // The 64-bit number: row r is byte r, lowest first.
+    pub fn number(self) -> u64
+        ensures { λ r. ⌜ Numbered (self .rows) r ⌝ }
+    {
+        let rows = self.rows;
+        let a = with_row(rows[7] as u64, rows[6]);
+        let b = with_row(a, rows[5]);
+        let c = with_row(b, rows[4]);
+        let d = with_row(c, rows[3]);
+        let e = with_row(d, rows[2]);
+        let f = with_row(e, rows[1]);
+        with_row(f, rows[0])
+    }
+
+    pub fn of_number(w: u64) -> Grid
+        ensures { λ r. ⌜ Parted w (r .rows) ⌝ }
+    {
+        let b = w >> 8;
+        let c = b >> 8;
+        let d = c >> 8;
+        let e = d >> 8;
+        let f = e >> 8;
+        let g = f >> 8;
+        let h = g >> 8;
+        Grid {
+            rows: [
+                byte(w),
+                byte(b),
+                byte(c),
+                byte(d),
+                byte(e),
+                byte(f),
+                byte(g),
+                byte(h),
+            ],
+        }
+    }
+}
