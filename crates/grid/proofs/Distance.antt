@@ -1,2 +1,84 @@
--- x
-use mathlib.Core.Path.{_≡_, refl, sym, ap, ap₂, _∙_, subst}
+-- Two grids differ in at least 16 places: each grid is in the product of the row code and the column code, and the product has that
+-- distance. Assumes nothing.
+use mathlib.Core.Path.{_≡_, refl, sym, ap, _∙_}
+use mathlib.Core.Logic.{_⊎_, inl, inr}
+use mathlib.Core.List.{List, [], _∷_}
+use Prim.Native.Nat.{ℕ, _^_, _≤_, _<_}
+use lib.Bits.{bitXor}
+use lib.ListN.{getD}
+use lib.Seq.{ext-getD}
+use Rattle.words.specs.Word.{bit, dist, combined}
+use Rattle.words.specs.Fields.{fields, joined}
+use Rattle.words.proofs.Bit.{bit-lt, bit-xor}
+use Rattle.words.proofs.Fields.{fields-below, joined-fields, dist-fields}
+use Rattle.words.proofs.Linear.{Linear, zero-linear, field-linear, combined-linear, combined-differ, then-linear, linear-agree}
+use Rattle.words.proofs.Test.{same-pairs}
+use Rattle.codes.specs.Product.{Sides, InProduct, Same, placesApart}
+use Rattle.codes.specs.Address.{ByEntries}
+use Rattle.codes.specs.Promises.{Distance}
+use Rattle.codes.proofs.Address.{distance4}
+use Rattle.codes.proofs.Product.{product-distance}
+use Rattle.grid.specs.Code.{codeword, gridCode}
+use Rattle.grid.proofs.Codeword.{codeword-linear, is-codeword, one-value}
+
+-- ---- the row code and the column code, by the entries 2 · address + 1 of places 0 to 7
+
+abbrev pub rowEntries : List ℕ
+rowEntries = 7 ∷ 11 ∷ 15 ∷ 13 ∷ 3 ∷ 5 ∷ 9 ∷ 1 ∷ []
+
+abbrev pub colEntries : List ℕ
+colEntries = 7 ∷ 11 ∷ 13 ∷ 15 ∷ 3 ∷ 5 ∷ 9 ∷ 1 ∷ []
+
+abbrev pub sides : Sides
+sides = record { side = 8; Row = ByEntries rowEntries; Col = ByEntries colEntries }
+
+-- row r of a grid
+abbrev pub rowOf : ℕ → ℕ → ℕ
+rowOf g r = getD (fields 8 8 g) r 0
+
+row-linear : (r : ℕ) → Linear (λ d. rowOf (codeword d) r)
+row-linear r = then-linear codeword-linear (field-linear 8 8 r)
+
+rows-in : (d : ℕ) → d < 2 ^ 16 → (r : ℕ) → r < 8 → ByEntries rowEntries (bit (rowOf (codeword d) r))
+unfolding codeword
+rows-in d l r h =
+    linear-agree (then-linear (row-linear r) (combined-linear rowEntries)) zero-linear 16
+    (λ k i. same-pairs 16 8 (λ k r. combined rowEntries (bit (rowOf (codeword (2 ^ k)) r))) (λ k r. 0) tt k r i h) d l
+
+col-linear : (c : ℕ) → Linear (λ d. combined colEntries (λ r. bit (rowOf (codeword d) r) c))
+col-linear c = record {
+  sum = λ a b.
+      combined-differ colEntries (λ r. bit (rowOf (codeword a) r) c) (λ r. bit (rowOf (codeword b) r) c)
+      (λ r. bit (rowOf (codeword (bitXor a b)) r) c) (λ r. bit-lt (rowOf (codeword a) r) c) (λ r. bit-lt (rowOf (codeword b) r) c)
+      (λ r. ap (λ (x : ℕ). bit x c) (row-linear r .sum a b) ∙ bit-xor (rowOf (codeword a) r) (rowOf (codeword b) r) c);
+}
+
+cols-in : (d : ℕ) → d < 2 ^ 16 → (c : ℕ) → c < 8 → ByEntries colEntries (λ r. bit (rowOf (codeword d) r) c)
+unfolding codeword
+cols-in d l c h =
+    linear-agree (col-linear c) zero-linear 16
+    (λ k i. same-pairs 16 8 (λ k c. combined colEntries (λ r. bit (rowOf (codeword (2 ^ k)) r) c)) (λ k c. 0) tt k c i h) d l
+
+pub in-product : (d : ℕ) → d < 2 ^ 16 → InProduct sides (rowOf (codeword d))
+in-product d l = record { fits = λ r h. fields-below 8 8 (codeword d) r; rows = rows-in d l; cols = cols-in d l }
+
+-- ---- the distance
+
+pub codeword-lt : (d : ℕ) → d < 2 ^ 16 → codeword d < 2 ^ 64
+codeword-lt d l = is-codeword d l .fits
+
+-- words with the same rows are the same
+same-word : (g h : ℕ) → g < 2 ^ 64 → h < 2 ^ 64 → Same 8 (rowOf g) (rowOf h) → g ≡ h
+same-word g h p q s =
+    sym (joined-fields 8 8 g p)
+    ∙ ap (joined 8) (ext-getD 0 (fields 8 8 g) (fields 8 8 h) refl (λ i l. s i l))
+    ∙ joined-fields 8 8 h q
+
+pub distance : Distance gridCode 16
+distance d e hd he ne = go (product-distance sides (distance4 rowEntries tt) (distance4 colEntries tt) (rowOf (codeword d)) (rowOf (codeword e)) (in-product d hd) (in-product e he))
+  where
+    go : Same 8 (rowOf (codeword d)) (rowOf (codeword e)) ⊎ (16 ≤ placesApart 8 (rowOf (codeword d)) (rowOf (codeword e))) → 16 ≤ dist (codeword d) (codeword e)
+    go (inl s) =
+        absurd (ne (one-value d e (codeword d) hd he (is-codeword d hd)
+        (rw (same-word (codeword d) (codeword e) (codeword-lt d hd) (codeword-lt e he) s) (is-codeword e he))))
+    go (inr f) = rw (dist-fields 8 8 (codeword d) (codeword e) (codeword-lt d hd) (codeword-lt e he)) f

@@ -1,2 +1,4 @@
 pub mod Codeword
 pub mod Distance
+pub mod Promises
+pub mod Cases

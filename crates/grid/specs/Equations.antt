@@ -2,7 +2,7 @@
 use mathlib.Core.Path.{_≡_}
 use mathlib.Core.List.{List, [], _∷_}
 use Prim.Native.Nat.{ℕ, _+_, _*_, _/_, _%_, _^_, _<_}
-use Rattle.words.specs.Word.{bit, parity}
+use Rattle.words.specs.Word.{bit, sumTo, parity}
 
 -- What stands at row r, place c of the grid g, a 64-bit number: row r is byte r, lowest byte first; place c of a row is bit c.
 abbrev pub place : ℕ → ℕ → ℕ → ℕ
@@ -14,6 +14,10 @@ inColumn g c r = place g r c
 
 abbrev pub zeroToSix : List ℕ
 zeroToSix = 0 ∷ 1 ∷ 2 ∷ 3 ∷ 4 ∷ 5 ∷ 6 ∷ []
+
+-- the data that stands in a grid: data bit k is at row k/4, place k mod 4
+abbrev pub dataOf : ℕ → ℕ
+dataOf g = sumTo 16 (λ k. place g (k / 4) (k % 4) * 2 ^ k)
 
 -- g is the grid of the data d.
 pub record Codeword (d g : ℕ) : Type 0 where

@@ -1,3 +1,5 @@
 pub mod Equations
 pub mod Code
 pub mod Calls
+pub mod Promises
+pub mod Cases

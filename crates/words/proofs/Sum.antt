@@ -2,13 +2,14 @@
 use mathlib.Core.Path.{_≡_, refl, sym, ap, ap₂, _∙_}
 use mathlib.Core.List.{List, [], _∷_}
 use mathlib.Core.Bool.{Bool, true, false}
-use Prim.Native.Nat.{ℕ, zero, suc, _+_, _%_, _≤_, _<_, suc-le-suc}
-use native.Mathlib.Nat.{zero-lt-suc, le-of-suc-le-suc}
+use Prim.Native.Nat.{ℕ, zero, suc, _+_, _*_, _/_, _%_, _^_, _≤_, _<_, suc-le-suc}
+use native.Mathlib.Nat.{zero-lt-suc, le-of-suc-le-suc, zero-mul, add-mul, mul-assoc, div-one, pow-suc}
 use native.Mathlib.Decide.{ℕ-discrete}
 use native.Mathlib.Omega.{arith}
-use lib.Arith.{lt-of-le-ne}
+use lib.Arith.{lt-of-le-ne, lt-one}
 use lib.Dec.{T, ltb, ltb→lt}
-use Rattle.words.specs.Word.{sumTo, sumOver, parity}
+use Rattle.words.specs.Word.{bit, sumTo, sumOver, parity}
+use Rattle.words.proofs.Bit.{bit-half, half-lt}
 use Rattle.words.proofs.Test.{every, both-left, both-right}
 
 pub sum-eq : (n : ℕ) (f g : ℕ → ℕ) → ((i : ℕ) → i < n → f i ≡ g i) → sumTo n f ≡ sumTo n g
@@ -24,6 +25,20 @@ pub sum-zero : (n : ℕ) (f : ℕ → ℕ) → sumTo n f ≡ 0 → (i : ℕ) →
 sum-zero zero f e i h = absurd (omega arith)
 sum-zero (suc n) f e zero h = omega arith
 sum-zero (suc n) f e (suc i) h = sum-zero n (λ i. f (suc i)) (omega arith) i (omega arith)
+
+pub sum-scale : (n m : ℕ) (f : ℕ → ℕ) → sumTo n (λ i. f i * m) ≡ sumTo n f * m
+sum-scale zero m f = sym (zero-mul m)
+sum-scale (suc n) m f = ap (λ (x : ℕ). f 0 * m + x) (sum-scale n m (λ i. f (suc i))) ∙ sym (add-mul (f 0) (sumTo n (λ i. f (suc i))) m)
+
+-- a number is the sum of its bits
+pub sum-bits : (n w : ℕ) → w < 2 ^ n → sumTo n (λ i. bit w i * 2 ^ i) ≡ w
+sum-bits zero w h = sym (lt-one h)
+sum-bits (suc n) w h =
+    ap₂ (λ (x y : ℕ). x % 2 * 1 + y) (div-one w)
+    (sum-eq n (λ i. bit w (suc i) * 2 ^ suc i) (λ i. bit (w / 2) i * 2 ^ i * 2)
+    (λ i l. ap₂ (λ (x y : ℕ). x * y) (bit-half w i) (pow-suc 2 i) ∙ sym (mul-assoc (bit (w / 2) i) (2 ^ i) 2))
+    ∙ sum-scale n 2 (λ i. bit (w / 2) i * 2 ^ i) ∙ ap (λ (x : ℕ). x * 2) (sum-bits n (w / 2) (half-lt n h)))
+    ∙ omega arith
 
 -- ---- parities
 

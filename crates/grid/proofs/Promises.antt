@@ -1,0 +1,52 @@
+-- What specs/Promises.antt says of the grid holds. Assumes nothing.
+use mathlib.Core.Path.{_≡_, refl, sym, ap, _∙_}
+use Prim.Native.Nat.{ℕ, _*_, _/_, _%_, _^_, _<_}
+use native.Mathlib.Omega.{arith}
+use lib.Count.{ones}
+use lib.Dec.{lit<, lit≤}
+use Rattle.words.specs.Word.{bit, dist, sumTo}
+use Rattle.words.proofs.Fields.{dist-fields}
+use Rattle.words.proofs.Sum.{sum-eq, sum-bits}
+use Rattle.codes.specs.Promises.{States}
+use Rattle.codes.proofs.Promises.{promises, one-more-is-lost}
+use Rattle.grid.specs.Equations.{place, dataOf, Codeword}
+use Rattle.grid.specs.Code.{codeword, gridCode}
+use Rattle.grid.specs.Promises.{GridPromises, OneOutcome}
+use Rattle.grid.proofs.Codeword.{is-codeword, one-solution, one-value}
+use Rattle.grid.proofs.Distance.{codeword-lt, distance}
+
+data-is : (d g : ℕ) → d < 2 ^ 16 → Codeword d g → dataOf g ≡ d
+data-is d g h p =
+    sum-eq 16 (λ k. place g (k / 4) (k % 4) * 2 ^ k) (λ k. bit d k * 2 ^ k) (λ k l. ap (λ (x : ℕ). x * 2 ^ k) (p .data-places k l)) ∙ sum-bits 16 d h
+
+-- the grids of 0 and 1
+sixteen-apart : dist (codeword 0) (codeword 1) ≡ 16
+unfolding codeword dist ones
+sixteen-apart = dist-fields 8 8 (codeword 0) (codeword 1) (lit< tt) (lit< tt)
+
+pub states : States gridCode 7 64 16
+states = record {
+  radius-is = refl;
+  length-is = refl;
+  fits = codeword-lt;
+  apart = distance;
+  reached = (0, 1, lit< tt, lit< tt, (λ e. absurd (omega arith)), sixteen-apart);
+}
+
+pub promised : GridPromises
+promised = record {
+  meets = is-codeword;
+  one-solution = one-solution;
+  one-value = one-value;
+  data-places = data-is;
+  constants = states;
+  verdicts = promises gridCode 16 distance (lit< tt);
+  eight-are-lost = one-more-is-lost gridCode 16 distance (lit≤ tt);
+}
+
+pub one-outcome : OneOutcome
+one-outcome = record {
+  encode = λ d a b p q. p .answer ∙ sym (q .answer);
+  number = λ rows a b p q. p .answer ∙ sym (q .answer);
+  of-number = λ w a b p q. p .answer ∙ sym (q .answer);
+}
