@@ -2,7 +2,8 @@
 ghost use mathlib.Core.Path.{_≡_};
 ghost use Prim.Native.Nat.{ℕ, _+_, _*_, _/_, _%_, _^_, _<_};
 ghost use lib.Bits.{bitAnd};
-ghost use Rattle.grid.specs.Code.{codeword};
+ghost use Rattle.codes.specs.Promises.{States};
+ghost use Rattle.grid.specs.Code.{codeword, gridCode};
 ghost use Rattle.grid.specs.Calls.{Encoded, Numbered, Parted};
 
 pub struct Grid {
@@ -73,6 +74,7 @@ impl Grid {
     // The grid of a number.
     pub fn encode(value: u16) -> Grid
         ensures { λ r. ⌜ Encoded value (r .rows) ⌝ }
+        ensures constants { λ r. do ⌜ States gridCode (← ⟦Grid::RADIUS⟧ .entry) (← ⟦Grid::LENGTH⟧ .entry) (← ⟦Grid::DISTANCE⟧ .entry) ⌝ }
     {
         let rows = upper(data_places(value));
         let checks = lower(rows);

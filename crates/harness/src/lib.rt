@@ -1,0 +1,53 @@
+// The library's calls on plain numbers, for the tests and for counting instructions. No part of the
+// product.
+ghost use mathlib.Core.Path.{_≡_};
+ghost use lib.ListN.{getD};
+ghost use Rattle.words.specs.Fields.{fields};
+ghost use Rattle.grid.specs.Equations.{Codeword};
+use grid::Grid;
+
+// The number of the grid of `value`.
+#[no_mangle]
+pub extern "C" fn grid_encode(value: u16) -> u64
+    ensures { λ r. ⌜ Codeword value r ⌝ }
+{
+    Grid::encode(value).number()
+}
+
+// To rows and back.
+#[no_mangle]
+pub extern "C" fn grid_there_and_back(w: u64) -> u64
+    ensures { λ r. ⌜ r ≡ w ⌝ }
+{
+    Grid::of_number(w).number()
+}
+
+// Row `r` of the grid with the number `w`, and 0 where there is no such row.
+#[no_mangle]
+pub extern "C" fn grid_row(w: u64, r: u64) -> u8
+    ensures { λ b. ⌜ b ≡ getD (fields 8 8 w) r 0 ⌝ }
+{
+    let rows = Grid::of_number(w).rows;
+    if r < 8 { rows[r as usize] } else { 0 }
+}
+
+#[no_mangle]
+pub extern "C" fn grid_radius() -> u32
+    ensures { λ r. ⌜ r ≡ 7 ⌝ }
+{
+    Grid::RADIUS
+}
+
+#[no_mangle]
+pub extern "C" fn grid_length() -> u32
+    ensures { λ r. ⌜ r ≡ 64 ⌝ }
+{
+    Grid::LENGTH
+}
+
+#[no_mangle]
+pub extern "C" fn grid_distance() -> u32
+    ensures { λ r. ⌜ r ≡ 16 ⌝ }
+{
+    Grid::DISTANCE
+}
