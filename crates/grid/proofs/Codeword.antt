@@ -1,49 +1,49 @@
 -- The computed grid meets the equations, and nothing else does: sums of grids are grids, the sixteen grids of one data bit are tested, and a
 -- grid with no data place set is empty. Assumes nothing.
 use mathlib.Core.Path.{_≡_, refl, sym, ap, ap₂, _∙_, subst}
-use mathlib.Core.List.{List, [], _∷_}
+use mathlib.Core.Bool.{Bool}
+use mathlib.Core.List.{List}
 use Prim.Native.Nat.{ℕ, _+_, _*_, _/_, _%_, _^_, _<_}
 use native.Mathlib.Nat.{le-of-suc-le-suc}
 use native.Mathlib.Decide.{ℕ-discrete}
 use native.Mathlib.Omega.{arith}
 use lib.Arith.{lt-of-le-ne}
-use lib.Dec.{T, ltb→lt, ltb, lit<}
+use lib.Dec.{T, ltb, ltb→lt, eqb, eqb→eq, lit<}
 use lib.Bits.{bitXor, xor-lt, xor-self}
-use Rattle.words.specs.Word.{bit, parity}
+use Rattle.words.specs.Word.{bit, sumOver, IsParity}
 use Rattle.words.proofs.Bit.{bit-xor-sum, bit-zero, eq-of-bits}
 use Rattle.words.proofs.Linear.{Linear, combined-linear, by-places}
 use Rattle.words.proofs.Sum.{parity-rule, zero-next}
-use Rattle.words.proofs.Test.{at-below, same-below, same-pairs}
+use Rattle.words.proofs.Test.{allPairs, at-below, at-pair, same-pairs}
 use Rattle.words.proofs.Xor.{eq-of-xor}
-use Rattle.grid.specs.Equations.{place, inColumn, zeroToSix, Codeword}
+use Rattle.grid.specs.Equations.{inRow, inColumn, Codeword}
 use Rattle.grid.specs.Code.{gridsOfBits, codeword}
 
 -- ---- sums of grids are grids
 
 module _ (g h : ℕ) where
   -- an equation along row r, and one along column c
-  in-row : (r t : ℕ) (is : List ℕ) → place g r t ≡ parity (place g r) is → place h r t ≡ parity (place h r) is
-      → place (bitXor g h) r t ≡ parity (place (bitXor g h) r) is
-  in-row r = parity-rule (place g r) (place h r) (place (bitXor g h) r) (λ c. bit-xor-sum g h (8 * r + c))
+  in-row : (r : ℕ) {t : ℕ} {is : List ℕ} → IsParity (inRow g r) t is → IsParity (inRow h r) t is → IsParity (inRow (bitXor g h) r) t is
+  in-row r p q = parity-rule p q (inRow (bitXor g h) r) (λ c. bit-xor-sum g h (8 * r + c))
 
-  in-column : (c t : ℕ) (is : List ℕ) → place g t c ≡ parity (inColumn g c) is → place h t c ≡ parity (inColumn h c) is
-      → place (bitXor g h) t c ≡ parity (inColumn (bitXor g h) c) is
-  in-column c = parity-rule (inColumn g c) (inColumn h c) (inColumn (bitXor g h) c) (λ r. bit-xor-sum g h (8 * r + c))
+  in-column : (c : ℕ) {t : ℕ} {is : List ℕ} → IsParity (inColumn g c) t is → IsParity (inColumn h c) t is
+      → IsParity (inColumn (bitXor g h) c) t is
+  in-column c p q = parity-rule p q (inColumn (bitXor g h) c) (λ r. bit-xor-sum g h (8 * r + c))
 
 pub sum-of-grids : (d e g h : ℕ) → Codeword d g → Codeword e h → Codeword (bitXor d e) (bitXor g h)
 sum-of-grids d e g h p q = record {
   fits = xor-lt 64 g h (p .fits) (q .fits);
   data-places = λ k l.
       bit-xor-sum g h (8 * (k / 4) + k % 4) ∙ ap₂ (λ (x y : ℕ). (x + y) % 2) (p .data-places k l) (q .data-places k l) ∙ sym (bit-xor-sum d e k);
-  place4 = λ r l. in-row g h r 4 (0 ∷ 1 ∷ 2 ∷ []) (p .place4 r l) (q .place4 r l);
-  place5 = λ r l. in-row g h r 5 (0 ∷ 2 ∷ 3 ∷ []) (p .place5 r l) (q .place5 r l);
-  place6 = λ r l. in-row g h r 6 (1 ∷ 2 ∷ 3 ∷ []) (p .place6 r l) (q .place6 r l);
-  row4 = λ c l. in-column g h c 4 (0 ∷ 1 ∷ 3 ∷ []) (p .row4 c l) (q .row4 c l);
-  row5 = λ c l. in-column g h c 5 (0 ∷ 2 ∷ 3 ∷ []) (p .row5 c l) (q .row5 c l);
-  row6 = λ c l. in-column g h c 6 (1 ∷ 2 ∷ 3 ∷ []) (p .row6 c l) (q .row6 c l);
-  place7 = λ r l. in-row g h r 7 zeroToSix (p .place7 r l) (q .place7 r l);
-  row7 = λ c l. in-column g h c 7 zeroToSix (p .row7 c l) (q .row7 c l);
-  corner = in-column g h 7 7 zeroToSix (p .corner) (q .corner);
+  place4 = λ r l. in-row g h r (p .place4 r l) (q .place4 r l);
+  place5 = λ r l. in-row g h r (p .place5 r l) (q .place5 r l);
+  place6 = λ r l. in-row g h r (p .place6 r l) (q .place6 r l);
+  row4 = λ c l. in-column g h c (p .row4 c l) (q .row4 c l);
+  row5 = λ c l. in-column g h c (p .row5 c l) (q .row5 c l);
+  row6 = λ c l. in-column g h c (p .row6 c l) (q .row6 c l);
+  place7 = λ r l. in-row g h r (p .place7 r l) (q .place7 r l);
+  row7 = λ c l. in-column g h c (p .row7 c l) (q .row7 c l);
+  corner = in-column g h 7 (p .corner) (q .corner);
 }
 
 -- ---- the computed grid
@@ -52,25 +52,32 @@ pub codeword-linear : Linear codeword
 unfolding codeword
 codeword-linear = combined-linear gridsOfBits
 
--- the grid of data bit k alone: its equations are computed
+-- an equation at the grids of one data bit each, in the lines r below n: computed
+module _ (line : ℕ → ℕ → ℕ → ℕ) (n t : ℕ) where
+  holds? : List ℕ → ℕ → ℕ → Bool
+  holds? is k r = eqb (line (codeword (2 ^ k)) r t) (sumOver (line (codeword (2 ^ k)) r) is % 2)
+
+  tested : {is : List ℕ} → T (allPairs 16 n (holds? is)) → (k : ℕ) → k < 16 → (r : ℕ) → r < n → IsParity (line (codeword (2 ^ k)) r) t is
+  unfolding holds?
+  tested {is} x k l r h = record {
+    parity = eqb→eq (line (codeword (2 ^ k)) r t) (sumOver (line (codeword (2 ^ k)) r) is % 2) (at-pair 16 n (holds? is) x k r l h);
+  }
+
 grid-of-bit : (k : ℕ) → k < 16 → Codeword (2 ^ k) (codeword (2 ^ k))
-unfolding codeword
+unfolding codeword holds?
 grid-of-bit k l = record {
-  fits = ltb→lt (g k) (2 ^ 64) (at-below 16 (λ k. ltb (g k) (2 ^ 64)) tt k l);
-  data-places = λ i h. same-pairs 16 16 (λ k i. place (g k) (i / 4) (i % 4)) (λ k i. bit (2 ^ k) i) tt k i l h;
-  place4 = λ r h. same-pairs 16 4 (λ k r. place (g k) r 4) (λ k r. parity (place (g k) r) (0 ∷ 1 ∷ 2 ∷ [])) tt k r l h;
-  place5 = λ r h. same-pairs 16 4 (λ k r. place (g k) r 5) (λ k r. parity (place (g k) r) (0 ∷ 2 ∷ 3 ∷ [])) tt k r l h;
-  place6 = λ r h. same-pairs 16 4 (λ k r. place (g k) r 6) (λ k r. parity (place (g k) r) (1 ∷ 2 ∷ 3 ∷ [])) tt k r l h;
-  row4 = λ c h. same-pairs 16 7 (λ k c. place (g k) 4 c) (λ k c. parity (inColumn (g k) c) (0 ∷ 1 ∷ 3 ∷ [])) tt k c l h;
-  row5 = λ c h. same-pairs 16 7 (λ k c. place (g k) 5 c) (λ k c. parity (inColumn (g k) c) (0 ∷ 2 ∷ 3 ∷ [])) tt k c l h;
-  row6 = λ c h. same-pairs 16 7 (λ k c. place (g k) 6 c) (λ k c. parity (inColumn (g k) c) (1 ∷ 2 ∷ 3 ∷ [])) tt k c l h;
-  place7 = λ r h. same-pairs 16 7 (λ k r. place (g k) r 7) (λ k r. parity (place (g k) r) zeroToSix) tt k r l h;
-  row7 = λ c h. same-pairs 16 7 (λ k c. place (g k) 7 c) (λ k c. parity (inColumn (g k) c) zeroToSix) tt k c l h;
-  corner = same-below 16 (λ k. place (g k) 7 7) (λ k. parity (inColumn (g k) 7) zeroToSix) tt k l;
+  fits = ltb→lt (codeword (2 ^ k)) (2 ^ 64) (at-below 16 (λ k. ltb (codeword (2 ^ k)) (2 ^ 64)) tt k l);
+  data-places = λ i h. same-pairs 16 16 (λ k i. inRow (codeword (2 ^ k)) (i / 4) (i % 4)) (λ k i. bit (2 ^ k) i) tt k i l h;
+  place4 = tested inRow 4 4 tt k l;
+  place5 = tested inRow 4 5 tt k l;
+  place6 = tested inRow 4 6 tt k l;
+  row4 = tested inColumn 7 4 tt k l;
+  row5 = tested inColumn 7 5 tt k l;
+  row6 = tested inColumn 7 6 tt k l;
+  place7 = tested inRow 7 7 tt k l;
+  row7 = tested inColumn 7 7 tt k l;
+  corner = tested (λ g r. inColumn g 7) 1 7 tt k l 0 (lit< tt);
 }
-  where
-    g : ℕ → ℕ
-    g k = codeword (2 ^ k)
 
 pub is-codeword : (d : ℕ) → d < 2 ^ 16 → Codeword d (codeword d)
 is-codeword =
@@ -89,34 +96,26 @@ eighth i h = omega arith
 
 -- a grid with no data place set is empty: place after place, row after row
 module _ (g : ℕ) (p : Codeword 0 g) where
-  data-zero : (r : ℕ) → r < 4 → (c : ℕ) → c < 4 → place g r c ≡ 0
+  data-zero : (r : ℕ) → r < 4 → (c : ℕ) → c < 4 → inRow g r c ≡ 0
   data-zero r hr c hc =
       let (u, v, l) = quarter r c hr hc in
-      sym (ap₂ (place g) u v) ∙ p .data-places (4 * r + c) l ∙ bit-zero (4 * r + c)
+      sym (ap₂ (inRow g) u v) ∙ p .data-places (4 * r + c) l ∙ bit-zero (4 * r + c)
 
-  row-zero : (r : ℕ) → r < 4 → (c : ℕ) → c < 7 → place g r c ≡ 0
-  row-zero r h =
-      zero-next 6 (place g r) (1 ∷ 2 ∷ 3 ∷ []) tt
-      (zero-next 5 (place g r) (0 ∷ 2 ∷ 3 ∷ []) tt
-      (zero-next 4 (place g r) (0 ∷ 1 ∷ 2 ∷ []) tt (data-zero r h) (p .place4 r h)) (p .place5 r h)) (p .place6 r h)
+  row-zero : (r : ℕ) → r < 4 → (c : ℕ) → c < 7 → inRow g r c ≡ 0
+  row-zero r h = zero-next (p .place6 r h) tt (zero-next (p .place5 r h) tt (zero-next (p .place4 r h) tt (data-zero r h)))
 
-  column-zero : (c : ℕ) → c < 7 → (r : ℕ) → r < 8 → place g r c ≡ 0
+  column-zero : (c : ℕ) → c < 7 → (r : ℕ) → r < 8 → inColumn g c r ≡ 0
   column-zero c h =
-      zero-next 7 (inColumn g c) zeroToSix tt
-      (zero-next 6 (inColumn g c) (1 ∷ 2 ∷ 3 ∷ []) tt
-      (zero-next 5 (inColumn g c) (0 ∷ 2 ∷ 3 ∷ []) tt
-      (zero-next 4 (inColumn g c) (0 ∷ 1 ∷ 3 ∷ []) tt (λ r l. row-zero r l c h) (p .row4 c h)) (p .row5 c h)) (p .row6 c h)) (p .row7 c h)
+      zero-next (p .row7 c h) tt (zero-next (p .row6 c h) tt (zero-next (p .row5 c h) tt (zero-next (p .row4 c h) tt (λ r l. row-zero r l c h))))
 
-  last-zero : (r : ℕ) → r < 8 → place g r 7 ≡ 0
-  last-zero =
-      zero-next 7 (inColumn g 7) zeroToSix tt
-      (λ r h. zero-next 7 (place g r) zeroToSix tt (λ c l. column-zero c l r (omega arith)) (p .place7 r h) 7 (lit< tt)) (p .corner)
+  last-zero : (r : ℕ) → r < 8 → inColumn g 7 r ≡ 0
+  last-zero = zero-next (p .corner) tt (λ r h. zero-next (p .place7 r h) tt (λ c l. column-zero c l r (omega arith)) 7 (lit< tt))
 
-  all-zero : (r c : ℕ) → r < 8 → c < 8 → place g r c ≡ 0
+  all-zero : (r c : ℕ) → r < 8 → c < 8 → inRow g r c ≡ 0
   all-zero r c hr hc = go (ℕ-discrete c 7)
     where
-      go : Dec (c ≡ 7) → place g r c ≡ 0
-      go (yes e) = ap (place g r) e ∙ last-zero r hr
+      go : Dec (c ≡ 7) → inRow g r c ≡ 0
+      go (yes e) = ap (inRow g r) e ∙ last-zero r hr
       go (no d) = column-zero c (lt-of-le-ne (le-of-suc-le-suc hc) d) r hr
 
   empty : g ≡ 0

@@ -1,6 +1,7 @@
 -- What specs/Promises.antt says of the grid holds. Assumes nothing.
 use mathlib.Core.Path.{_≡_, refl, sym, ap, _∙_}
-use Prim.Native.Nat.{ℕ, _*_, _/_, _%_, _^_, _<_}
+use Prim.Native.Nat.{ℕ, _*_, _/_, _%_, _^_, _≤_, _<_}
+use native.Mathlib.Nat.{le-trans, le-antisymm}
 use native.Mathlib.Omega.{arith}
 use lib.Count.{ones}
 use lib.Dec.{lit<, lit≤}
@@ -9,7 +10,7 @@ use Rattle.words.proofs.Fields.{dist-fields}
 use Rattle.words.proofs.Sum.{sum-eq, sum-bits}
 use Rattle.codes.specs.Promises.{States}
 use Rattle.codes.proofs.Promises.{promises, one-more-is-lost}
-use Rattle.grid.specs.Equations.{place, dataOf, Codeword}
+use Rattle.grid.specs.Equations.{inRow, dataOf, Codeword}
 use Rattle.grid.specs.Code.{codeword, gridCode}
 use Rattle.grid.specs.Promises.{GridPromises, OneOutcome}
 use Rattle.grid.proofs.Codeword.{is-codeword, one-solution, one-value}
@@ -17,20 +18,21 @@ use Rattle.grid.proofs.Distance.{codeword-lt, distance}
 
 data-is : (d g : ℕ) → d < 2 ^ 16 → Codeword d g → dataOf g ≡ d
 data-is d g h p =
-    sum-eq 16 (λ k. place g (k / 4) (k % 4) * 2 ^ k) (λ k. bit d k * 2 ^ k) (λ k l. ap (λ (x : ℕ). x * 2 ^ k) (p .data-places k l)) ∙ sum-bits 16 d h
+    sum-eq 16 (λ k. inRow g (k / 4) (k % 4) * 2 ^ k) (λ k. bit d k * 2 ^ k) (λ k l. ap (λ (x : ℕ). x * 2 ^ k) (p .data-places k l)) ∙ sum-bits 16 d h
 
 -- the grids of 0 and 1
 sixteen-apart : dist (codeword 0) (codeword 1) ≡ 16
 unfolding codeword dist ones
 sixteen-apart = dist-fields 8 8 (codeword 0) (codeword 1) (lit< tt) (lit< tt)
 
-pub states : States gridCode 7 64 16
-states = record {
-  radius-is = refl;
-  length-is = refl;
+-- two grids are 16 places apart or more, and some no more
+states : {radius length n : ℕ} → radius ≡ 7 → length ≡ 64 → n ≤ 16 → 16 ≤ n → States gridCode radius length n
+states p q l h = record {
+  radius-is = p;
+  length-is = q;
   fits = codeword-lt;
-  apart = distance;
-  reached = (0, 1, lit< tt, lit< tt, (λ e. absurd (omega arith)), sixteen-apart);
+  apart = λ d e hd he ne. le-trans l (distance d e hd he ne);
+  reached = (0, 1, lit< tt, lit< tt, (λ e. absurd (omega arith)), sixteen-apart ∙ le-antisymm h l);
 }
 
 pub promised : GridPromises
@@ -39,7 +41,7 @@ promised = record {
   one-solution = one-solution;
   one-value = one-value;
   data-places = data-is;
-  constants = states;
+  constants = states refl refl (lit≤ tt) (lit≤ tt);
   verdicts = promises gridCode 16 distance (lit< tt);
   eight-are-lost = one-more-is-lost gridCode 16 distance (lit≤ tt);
 }

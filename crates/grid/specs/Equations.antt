@@ -1,40 +1,37 @@
 -- The parity equations of the grid, place by place, as document 01 lists them. Assumes nothing.
 use mathlib.Core.Path.{_≡_}
-use mathlib.Core.List.{List, [], _∷_}
+use mathlib.Core.List.{[], _∷_}
 use Prim.Native.Nat.{ℕ, _+_, _*_, _/_, _%_, _^_, _<_}
-use Rattle.words.specs.Word.{bit, sumTo, parity}
+use Rattle.words.specs.Word.{bit, sumTo, IsParity}
 
 -- What stands at row r, place c of the grid g, a 64-bit number: row r is byte r, lowest byte first; place c of a row is bit c.
-abbrev pub place : ℕ → ℕ → ℕ → ℕ
-place g r c = bit g (8 * r + c)
+abbrev pub inRow : ℕ → ℕ → ℕ → ℕ
+inRow g r c = bit g (8 * r + c)
 
 -- the same along column c
 abbrev pub inColumn : ℕ → ℕ → ℕ → ℕ
-inColumn g c r = place g r c
-
-abbrev pub zeroToSix : List ℕ
-zeroToSix = 0 ∷ 1 ∷ 2 ∷ 3 ∷ 4 ∷ 5 ∷ 6 ∷ []
+inColumn g c r = inRow g r c
 
 -- the data that stands in a grid: data bit k is at row k/4, place k mod 4
 abbrev pub dataOf : ℕ → ℕ
-dataOf g = sumTo 16 (λ k. place g (k / 4) (k % 4) * 2 ^ k)
+dataOf g = sumTo 16 (λ k. inRow g (k / 4) (k % 4) * 2 ^ k)
 
 -- g is the grid of the data d.
 pub record Codeword (d g : ℕ) : Type 0 where
   pub fits : g < 2 ^ 64
   -- Data bit k (0 to 15) stands at row k/4, place k mod 4.
-  pub data-places : (k : ℕ) → k < 16 → place g (k / 4) (k % 4) ≡ bit d k
+  pub data-places : (k : ℕ) → k < 16 → inRow g (k / 4) (k % 4) ≡ bit d k
   -- Each of rows 0 to 3: place 4 is the parity of places 0, 1, 2; place 5 of places 0, 2, 3; place 6 of places 1, 2, 3.
-  pub place4 : (r : ℕ) → r < 4 → place g r 4 ≡ parity (place g r) (0 ∷ 1 ∷ 2 ∷ [])
-  pub place5 : (r : ℕ) → r < 4 → place g r 5 ≡ parity (place g r) (0 ∷ 2 ∷ 3 ∷ [])
-  pub place6 : (r : ℕ) → r < 4 → place g r 6 ≡ parity (place g r) (1 ∷ 2 ∷ 3 ∷ [])
+  pub place4 : (r : ℕ) → r < 4 → IsParity (inRow g r) 4 (0 ∷ 1 ∷ 2 ∷ [])
+  pub place5 : (r : ℕ) → r < 4 → IsParity (inRow g r) 5 (0 ∷ 2 ∷ 3 ∷ [])
+  pub place6 : (r : ℕ) → r < 4 → IsParity (inRow g r) 6 (1 ∷ 2 ∷ 3 ∷ [])
   -- Each of columns 0 to 6: row 4 is the parity of rows 0, 1, 3; row 5 of rows 0, 2, 3; row 6 of rows 1, 2, 3.
-  pub row4 : (c : ℕ) → c < 7 → place g 4 c ≡ parity (inColumn g c) (0 ∷ 1 ∷ 3 ∷ [])
-  pub row5 : (c : ℕ) → c < 7 → place g 5 c ≡ parity (inColumn g c) (0 ∷ 2 ∷ 3 ∷ [])
-  pub row6 : (c : ℕ) → c < 7 → place g 6 c ≡ parity (inColumn g c) (1 ∷ 2 ∷ 3 ∷ [])
+  pub row4 : (c : ℕ) → c < 7 → IsParity (inColumn g c) 4 (0 ∷ 1 ∷ 3 ∷ [])
+  pub row5 : (c : ℕ) → c < 7 → IsParity (inColumn g c) 5 (0 ∷ 2 ∷ 3 ∷ [])
+  pub row6 : (c : ℕ) → c < 7 → IsParity (inColumn g c) 6 (1 ∷ 2 ∷ 3 ∷ [])
   -- Place 7 of rows 0 to 6 is the parity of places 0 to 6.
-  pub place7 : (r : ℕ) → r < 7 → place g r 7 ≡ parity (place g r) zeroToSix
+  pub place7 : (r : ℕ) → r < 7 → IsParity (inRow g r) 7 (0 ∷ 1 ∷ 2 ∷ 3 ∷ 4 ∷ 5 ∷ 6 ∷ [])
   -- Row 7, places 0 to 6, is the parity of rows 0 to 6 in that column.
-  pub row7 : (c : ℕ) → c < 7 → place g 7 c ≡ parity (inColumn g c) zeroToSix
+  pub row7 : (c : ℕ) → c < 7 → IsParity (inColumn g c) 7 (0 ∷ 1 ∷ 2 ∷ 3 ∷ 4 ∷ 5 ∷ 6 ∷ [])
   -- Row 7, place 7 is the parity of place 7 over rows 0 to 6.
-  pub corner : place g 7 7 ≡ parity (inColumn g 7) zeroToSix
+  pub corner : IsParity (inColumn g 7) 7 (0 ∷ 1 ∷ 2 ∷ 3 ∷ 4 ∷ 5 ∷ 6 ∷ [])

@@ -8,7 +8,7 @@ use native.Mathlib.Decide.{ℕ-discrete}
 use native.Mathlib.Omega.{arith}
 use lib.Arith.{lt-of-le-ne, lt-one}
 use lib.Dec.{T, ltb, ltb→lt}
-use Rattle.words.specs.Word.{bit, sumTo, sumOver, parity}
+use Rattle.words.specs.Word.{bit, sumTo, sumOver, IsParity}
 use Rattle.words.proofs.Bit.{bit-half, half-lt}
 use Rattle.words.proofs.Test.{every, both-left, both-right}
 
@@ -42,27 +42,26 @@ sum-bits (suc n) w h =
 
 -- ---- parities
 
-parity-step : (x y p q : ℕ) → p ≡ (x + y) % 2 → (p + q) % 2 ≡ (x + y + q) % 2
-parity-step x y p q e = omega arith
-
-parity-move : (x y a b r : ℕ) → r % 2 ≡ (a + b) % 2 → (x + y + r) % 2 ≡ (x + a + (y + b)) % 2
-parity-move x y a b r e = omega arith
-
-sum-parity : (f g h : ℕ → ℕ) → ((i : ℕ) → h i ≡ (f i + g i) % 2) → (is : List ℕ) → sumOver h is % 2 ≡ (sumOver f is + sumOver g is) % 2
-sum-parity f g h e [] = refl
-sum-parity f g h e (i ∷ is) =
-    parity-step (f i) (g i) (h i) (sumOver h is) (e i) ∙ parity-move (f i) (g i) (sumOver f is) (sumOver g is) (sumOver h is) (sum-parity f g h e is)
-
--- the parity of a place by place sum is the sum of the parities
-parity-sum : (f g h : ℕ → ℕ) → ((i : ℕ) → h i ≡ (f i + g i) % 2) → (is : List ℕ) → parity h is ≡ (parity f is + parity g is) % 2
-parity-sum f g h e is = sum-parity f g h e is ∙ mods (sumOver f is) (sumOver g is)
+-- the parity of a sum that is taken place by place
+parity-sum : (f g h : ℕ → ℕ) → ((i : ℕ) → h i ≡ (f i + g i) % 2) → (is : List ℕ) → sumOver h is % 2 ≡ (sumOver f is + sumOver g is) % 2
+parity-sum f g h e [] = refl
+parity-sum f g h e (i ∷ is) =
+    first (f i + g i) (h i) (sumOver h is) (e i) ∙ rest (f i) (g i) (sumOver f is) (sumOver g is) (sumOver h is) (parity-sum f g h e is)
   where
-    mods : (x y : ℕ) → (x + y) % 2 ≡ (x % 2 + y % 2) % 2
-    mods x y = omega arith
+    first : (x z r : ℕ) → z ≡ x % 2 → (z + r) % 2 ≡ (x + r) % 2
+    first x z r p = omega arith
 
--- two words that meet a parity equation: so does their place by place sum
-pub parity-rule : (f g h : ℕ → ℕ) → ((i : ℕ) → h i ≡ (f i + g i) % 2) → (t : ℕ) (is : List ℕ) → f t ≡ parity f is → g t ≡ parity g is → h t ≡ parity h is
-parity-rule f g h e t is p q = e t ∙ ap₂ (λ (x y : ℕ). (x + y) % 2) p q ∙ sym (parity-sum f g h e is)
+    rest : (x y a b r : ℕ) → r % 2 ≡ (a + b) % 2 → (x + y + r) % 2 ≡ (x + a + (y + b)) % 2
+    rest x y a b r p = omega arith
+
+-- two words that meet a parity equation: so does their sum
+pub parity-rule : {f g : ℕ → ℕ} {t : ℕ} {is : List ℕ} → IsParity f t is → IsParity g t is → (h : ℕ → ℕ) → ((i : ℕ) → h i ≡ (f i + g i) % 2) → IsParity h t is
+parity-rule {f} {g} {t} {is} p q h e = record {
+  parity = e t ∙ ap₂ (λ (x y : ℕ). (x + y) % 2) (p .parity) (q .parity) ∙ mods (sumOver f is) (sumOver g is) ∙ sym (parity-sum f g h e is);
+}
+  where
+    mods : (x y : ℕ) → (x % 2 + y % 2) % 2 ≡ (x + y) % 2
+    mods x y = omega arith
 
 none-set : (n : ℕ) (f : ℕ → ℕ) → ((i : ℕ) → i < n → f i ≡ 0) → (is : List ℕ) → T (every (λ i. ltb i n) is) → sumOver f is ≡ 0
 none-set n f h [] t = refl
@@ -70,14 +69,11 @@ none-set n f h (i ∷ is) t =
     ap₂ (λ (x y : ℕ). x + y) (h i (ltb→lt i n (both-left (ltb i n) (every (λ i. ltb i n) is) t)))
     (none-set n f h is (both-right (ltb i n) (every (λ i. ltb i n) is) t))
 
--- a parity over places below n, none of which is set
-parity-zero : (n : ℕ) (f : ℕ → ℕ) → ((i : ℕ) → i < n → f i ≡ 0) → (is : List ℕ) → T (every (λ i. ltb i n) is) → parity f is ≡ 0
-parity-zero n f h is t = ap (λ (x : ℕ). x % 2) (none-set n f h is t)
-
--- places below n are not set, and place n is a parity of such: so places up to n are not set
-pub zero-next : (n : ℕ) (f : ℕ → ℕ) (is : List ℕ) → T (every (λ i. ltb i n) is) → ((i : ℕ) → i < n → f i ≡ 0) → f n ≡ parity f is → (i : ℕ) → i < suc n → f i ≡ 0
-zero-next n f is t h e i l = go (ℕ-discrete i n)
+-- places below n are not set, and place n is a parity of such: so no place up to n is set
+pub zero-next : {f : ℕ → ℕ} {n : ℕ} {is : List ℕ} → IsParity f n is → T (every (λ i. ltb i n) is) → ((i : ℕ) → i < n → f i ≡ 0)
+    → (i : ℕ) → i < suc n → f i ≡ 0
+zero-next {f} {n} {is} p t h i l = go (ℕ-discrete i n)
   where
     go : Dec (i ≡ n) → f i ≡ 0
-    go (yes q) = ap f q ∙ e ∙ parity-zero n f h is t
+    go (yes q) = ap f q ∙ p .parity ∙ ap (λ (x : ℕ). x % 2) (none-set n f h is t)
     go (no q) = h i (lt-of-le-ne (le-of-suc-le-suc l) q)

@@ -1,5 +1,6 @@
 -- Words of bits, as numbers: what stands at a place, in how many places two words differ, sums and parities over places.
 -- Assumes nothing.
+use mathlib.Core.Path.{_≡_}
 use mathlib.Core.List.{List, [], _∷_}
 use Prim.Native.Nat.{ℕ, zero, suc, _+_, _/_, _%_, _^_}
 use lib.Bits.{bitXor}
@@ -23,9 +24,9 @@ abbrev pub sumOver : (ℕ → ℕ) → List ℕ → ℕ
 sumOver f [] = 0
 sumOver f (i ∷ is) = f i + sumOver f is
 
--- the parity of f over the places of a list
-abbrev pub parity : (ℕ → ℕ) → List ℕ → ℕ
-parity f is = sumOver f is % 2
+-- place t is the parity of the places of a list; f i is the bit that stands at place i
+pub record IsParity (f : ℕ → ℕ) (t : ℕ) (places : List ℕ) : Type 0 where
+  pub parity : f t ≡ sumOver f places % 2
 
 -- the entry h where the bit b is set, and 0 where it is not
 abbrev pub picked : ℕ → ℕ → ℕ

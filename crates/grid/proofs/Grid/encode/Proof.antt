@@ -9,7 +9,7 @@ use Rattle.grid.specs.Equations.{Codeword}
 use Rattle.grid.specs.Code.{codeword}
 use Rattle.grid.specs.Calls.{Encoded}
 use Rattle.grid.proofs.Codeword.{is-codeword}
-use Rattle.grid.proofs.Promises.{states}
+use Rattle.grid.proofs.Promises.{promised}
 use borrow.Author.Needs.{needs}
 use Rattle.grid.proofs.Grid.encode.Statement.{statement}
 use Rattle.grid.proofs.Grid.encode.Tie as tie
@@ -33,7 +33,7 @@ returns c =
     c .before .before .upper .ensures d l (c .before .before .before .data-places .ensures) in (
       encoded d (c .before .before .upper .result) (c .before .lower .result) (c .of-number .result .rows) l high
           (c .before .lower .ensures d l high) (c .of-number .ensures .answer),
-      states,
+      promised .constants,
     )
 
 pub encode-spec : {M : Type 1} → statement M
