@@ -1,35 +1,28 @@
 -- The product of a row code and a column code of distance 4 has distance 16, so at most one of its words is within 7. Assumes nothing.
-use mathlib.Core.Path.{_≡_, refl, sym, ap, ap₂, _∙_}
+use mathlib.Core.Path.{_≡_, sym, ap, _∙_}
 use mathlib.Core.Logic.{_⊎_, inl, inr}
-use Prim.Native.Nat.{ℕ, zero, suc, _+_, _*_, _^_, _≤_, _<_, suc-le-suc, min}
+use Prim.Native.Nat.{ℕ, zero, suc, _+_, _*_, _^_, _≤_, _<_, suc-le-suc}
 use native.Mathlib.Nat.{zero-lt-suc, eq-zero-or-pos}
 use native.Mathlib.Decide.{decLe}
 use native.Mathlib.Omega.{arith}
 use lib.Bits.{differ}
 use Rattle.words.specs.Word.{bit, dist, sumTo}
 use Rattle.words.proofs.Bit.{bit-lt, differ-self, differ-lt, eq-of-bits}
-use Rattle.words.proofs.Sum.{sum-le, sum-zero}
+use Rattle.words.proofs.Sum.{sum-le}
 use Rattle.words.proofs.Dist.{dist-self, dist-sym, dist-triangle, dist-places, eq-of-dist}
-use Rattle.codes.specs.Product.{Sides, InProduct, Same, differs, placesApart, rowsApart, Distance4}
+use Rattle.codes.specs.Product.{Sides, InProduct, Same, differs, placesApart, rowsApart, Distance4, ProductPromises}
 
 -- ---- rows that differ
 
-abbrev pub Differs : ℕ → ℕ → Type 0
+abbrev Differs : ℕ → ℕ → Type 0
 Differs a b = ((a ≡ b) × (dist a b ≡ 0)) ⊎ (0 < dist a b)
 
-pub differs-cases : (a b : ℕ) → Differs a b
+differs-cases : (a b : ℕ) → Differs a b
 differs-cases a b = go (eq-zero-or-pos (dist a b))
   where
     go : (dist a b ≡ 0) ⊎ (0 < dist a b) → Differs a b
     go (inl e) = inl (eq-of-dist a b e, e)
     go (inr p) = inr p
-
--- words with no row apart are the same
-pub same-rows : (n : ℕ) (u v : ℕ → ℕ) → rowsApart n u v ≡ 0 → Same n u v
-same-rows n u v e r h = eq-of-dist (u r) (v r) (zero-dist (dist (u r) (v r)) (sum-zero n (λ r. differs (u r) (v r)) e r h))
-  where
-    zero-dist : (x : ℕ) → min 1 x ≡ 0 → x ≡ 0
-    zero-dist x e = omega arith
 
 -- a column differs in no more places than rows do
 col-apart : (n c : ℕ) (u v : ℕ → ℕ) → sumTo n (λ r. differ (bit (u r) c) (bit (v r) c)) ≤ rowsApart n u v
@@ -80,8 +73,8 @@ module _ (S : Sides) (row4 : Distance4 (S .side) (S .Row)) (col4 : Distance4 (S 
       go (no f) = inl (λ r h. eq-of-bits (S .side) (u r) (v r) (hu .fits r h) (hv .fits r h) (λ c l. column (omega arith) c l r h))
 
   -- the distance of the product, from the two
-  pub product-distance : (u v : ℕ → ℕ) → InProduct S u → InProduct S v → Same (S .side) u v ⊎ (16 ≤ placesApart (S .side) u v)
-  product-distance u v hu hv = go (rows-far u v hu hv)
+  distance : (u v : ℕ → ℕ) → InProduct S u → InProduct S v → Same (S .side) u v ⊎ (16 ≤ placesApart (S .side) u v)
+  distance u v hu hv = go (rows-far u v hu hv)
     where
       go : Same (S .side) u v ⊎ (4 ≤ rowsApart (S .side) u v) → Same (S .side) u v ⊎ (16 ≤ placesApart (S .side) u v)
       go (inl s) = inl s
@@ -92,10 +85,12 @@ module _ (S : Sides) (row4 : Distance4 (S .side) (S .Row)) (col4 : Distance4 (S 
                 (λ r h. row-far (u r) (v r) (hu .fits r h) (hv .fits r h) (hu .rows r h) (hv .rows r h)),
           ))
 
-  -- at most one word of the product is within 7
-  pub one-within-7 : (w u v : ℕ → ℕ) → InProduct S u → InProduct S v → placesApart (S .side) w u ≤ 7 → placesApart (S .side) w v ≤ 7 → Same (S .side) u v
-  one-within-7 w u v hu hv du dv = go (product-distance u v hu hv)
+  one-within-7 : (read u v : ℕ → ℕ) → InProduct S u → InProduct S v → placesApart (S .side) read u ≤ 7 → placesApart (S .side) read v ≤ 7 → Same (S .side) u v
+  one-within-7 read u v hu hv du dv = go (distance u v hu hv)
     where
       go : Same (S .side) u v ⊎ (16 ≤ placesApart (S .side) u v) → Same (S .side) u v
       go (inl s) = s
-      go (inr f) = absurd (omega (arith, by-way (S .side) u w v))
+      go (inr f) = absurd (omega (arith, by-way (S .side) u read v))
+
+  pub product-promises : ProductPromises S
+  product-promises = record { distance = distance; one-within-7 = one-within-7 }

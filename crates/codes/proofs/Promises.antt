@@ -1,16 +1,14 @@
 -- Where the distance of a code is over twice its radius, its verdicts keep what specs/Promises.antt says; where it is over that by two, one
 -- flip more than the radius is always lost. Assumes nothing.
-use mathlib.Core.Path.{_≡_, refl, sym, ap, ap₂, _∙_, subst}
+use mathlib.Core.Path.{_≡_, refl, sym, ap, _∙_, subst}
 use mathlib.Core.Logic.{_≢_}
 use Prim.Native.Nat.{ℕ, zero, suc, _+_, _*_, _≤_, _<_}
-use native.Mathlib.Nat.{le-of-eq}
 use native.Mathlib.Decide.{ℕ-discrete}
 use native.Mathlib.Omega.{arith}
 use lib.Bits.{bitXor}
 use lib.Count.{ones}
-use Rattle.words.specs.Word.{dist}
 use Rattle.words.proofs.Dist.{dist-sym, dist-triangle, dist-self, dist-flips}
-use Rattle.codes.specs.Verdict.{Code, Verdict, clean, mended, lost, tie, off, Alone, Is, answered, verdict}
+use Rattle.codes.specs.Verdict.{Code, Verdict, clean, mended, lost, tie, off, Alone, IsVerdict, answered, verdict}
 use Rattle.codes.specs.Promises.{Distance, Hands, Demand3, Promises, OneMoreIsLost}
 use Rattle.codes.proofs.Verdict.{verdict-is, one-verdict}
 
@@ -19,7 +17,7 @@ hands-answered d zero = (refl, refl)
 hands-answered d (suc n) = (refl, refl)
 
 -- what is handed out is a codeword that stands alone within the radius
-handed : (C : Code) (w : ℕ) (v : Verdict) → Is C w v → (d n : ℕ) → Hands v d n → Alone C w d n × (n ≤ C .radius)
+handed : (C : Code) (w : ℕ) (v : Verdict) → IsVerdict C w v → (d n : ℕ) → Hands v d n → Alone C w d n × (n ≤ C .radius)
 handed C w (clean e) p d n (q, z) = (subst (λ (x : ℕ). Alone C w x n) q (subst (Alone C w e) (sym z) p), omega arith)
 handed C w (mended e m) (p, l, r) d n (q, z) = (subst (λ (x : ℕ). Alone C w x n) q (subst (Alone C w e) (sym z) p), omega arith)
 handed C w lost p d n q = absurd q
@@ -39,11 +37,11 @@ module _ (C : Code) (D : ℕ) (far : Distance C D) where
     pub found : (w d : ℕ) → d < C .values → off C w d ≤ C .radius → verdict C w ≡ answered d (off C w d)
     found w d v r = one-verdict C w (verdict C w) (answered d (off C w d)) (verdict-is C w) (go (off C w d) r (near w d v r))
       where
-        go : (n : ℕ) → n ≤ C .radius → Alone C w d n → Is C w (answered d n)
+        go : (n : ℕ) → n ≤ C .radius → Alone C w d n → IsVerdict C w (answered d n)
         go zero l a = a
         go (suc n) l a = (a, omega arith, l)
 
-    never-tie : (w : ℕ) → Is C w tie → ⊥
+    never-tie : (w : ℕ) → IsVerdict C w tie → ⊥
     never-tie w (n, l, r, t) = omega (arith, t .at, between w (t .first) (t .second) (t .values .0) (t .values .1) (t .apart))
 
     demand3 : (w : ℕ) → Demand3 C w (verdict C w)
@@ -70,7 +68,7 @@ module _ (C : Code) (D : ℕ) (far : Distance C D) where
     pub promises : Promises C
     promises = record {
       demand3 = demand3;
-      no-tie = λ w e. never-tie w (subst (Is C w) e (verdict-is C w));
+      no-tie = λ w e. never-tie w (subst (IsVerdict C w) e (verdict-is C w));
       unharmed = unharmed;
       undone = undone;
     }

@@ -1,7 +1,7 @@
 -- Two trials are enough. Row by row, what both trials together pay, (2w + s) + (2w' + s'), is at most the places in which the row differs
 -- from the codeword's; seven cannot pay for 4 + 4. So a codeword within 7 is the candidate of one of them, and a trial has at most one
 -- candidate. Assumes nothing.
-use mathlib.Core.Path.{_≡_, refl, sym, ap, _∙_}
+use mathlib.Core.Path.{_≡_, refl, ap, _∙_}
 use mathlib.Core.Logic.{_⊎_, inl, inr}
 use mathlib.Core.Bool.{Bool, true, false}
 use Prim.Native.Nat.{ℕ, zero, suc, _+_, _*_, _^_, _≤_, _<_, suc-le-suc}
@@ -10,11 +10,10 @@ use native.Mathlib.Decide.{decLe}
 use native.Mathlib.Omega.{arith}
 use lib.Dec.{leb}
 use borrow.Author.Tests.{leb-true, leb-false}
-use Rattle.words.specs.Word.{bit, dist, sumTo}
+use Rattle.words.specs.Word.{choose, bit, dist, sumTo}
 use Rattle.words.proofs.Dist.{dist-self, dist-sym, dist-triangle}
-use Rattle.codes.specs.Verdict.{choose}
-use Rattle.codes.specs.Product.{Sides, InProduct, Same, differs, placesApart, rowsApart, Distance4, Repair, aside, wrong, Candidate}
-use Rattle.codes.proofs.Product.{Differs, differs-cases, row-far, rows-far}
+use Rattle.codes.specs.Product.{Sides, InProduct, Same, differs, placesApart, rowsApart, Distance4, Repair, aside, wrong, Candidate, TrialPromises}
+use Rattle.codes.proofs.Product.{row-far, rows-far}
 
 -- ---- a row in a trial: set aside, or not
 
@@ -51,8 +50,7 @@ module _ (fix : ℕ → ℕ) where
   pair t (suc n) x u v = omega (arith, row-pair t (x 0) (u 0) (v 0), pair t n (λ r. x (suc r)) (λ r. u (suc r)) (λ r. v (suc r)))
 
 module _ (S : Sides) (row4 : Distance4 (S .side) (S .Row)) (col4 : Distance4 (S .side) (S .Col)) (fix : ℕ → ℕ) where
-  -- a trial has at most one candidate
-  pub one-candidate : (t : ℕ) (x u v : ℕ → ℕ) → Candidate S fix t x u → Candidate S fix t x v → Same (S .side) u v
+  one-candidate : (t : ℕ) (x u v : ℕ → ℕ) → Candidate S fix t x u → Candidate S fix t x v → Same (S .side) u v
   one-candidate t x u v hu hv = go (rows-far S row4 col4 u v (hu .code) (hv .code))
     where
       go : Same (S .side) u v ⊎ (4 ≤ rowsApart (S .side) u v) → Same (S .side) u v
@@ -86,8 +84,7 @@ module _ (S : Sides) (row4 : Distance4 (S .side) (S .Row)) (col4 : Distance4 (S 
     costs zero x c h = omega arith
     costs (suc n) x c h = omega (arith, h 0 (zero-lt-suc n), costs n (λ r. x (suc r)) (λ r. c (suc r)) (λ r l. h (suc r) (suc-le-suc l)))
 
-    -- a codeword within 7 is the candidate of trial one or of trial two
-    pub two-trials : (x c : ℕ → ℕ) → ((r : ℕ) → r < S .side → x r < 2 ^ S .side) → InProduct S c → placesApart (S .side) x c ≤ 7
+    two-trials : (x c : ℕ → ℕ) → ((r : ℕ) → r < S .side → x r < 2 ^ S .side) → InProduct S c → placesApart (S .side) x c ≤ 7
         → Candidate S fix 2 x c ⊎ Candidate S fix 1 x c
     two-trials x c hx hc d =
         go (decLe (2 * sumTo (S .side) (λ r. wrong fix 2 (x r) (c r)) + sumTo (S .side) (λ r. aside fix 2 (x r))) 3)
@@ -100,3 +97,6 @@ module _ (S : Sides) (row4 : Distance4 (S .side) (S .Row)) (col4 : Distance4 (S 
             → Candidate S fix 2 x c ⊎ Candidate S fix 1 x c
         go (yes h) = inl (record { code = hc; few = h })
         go (no h) = inr (record { code = hc; few = omega (arith, all) })
+
+    pub trial-promises : TrialPromises S fix
+    trial-promises = record { one-candidate = one-candidate; two-trials = two-trials }

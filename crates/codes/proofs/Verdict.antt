@@ -9,7 +9,8 @@ use native.Mathlib.Omega.{arith}
 use lib.Arith.{lt-of-le-ne}
 use lib.Dec.{leb, ltb, eqb}
 use borrow.Author.Tests.{ltb-true, ltb-false, leb-true, leb-false, eqb-true, eqb-false}
-use Rattle.codes.specs.Verdict.{Code, Verdict, clean, mended, lost, tie, off, Least, Two, Alone, Is, Nearest, none, one, several, choose, nearer, nearest, answered, judged, verdict}
+use Rattle.words.specs.Word.{choose}
+use Rattle.codes.specs.Verdict.{Code, Verdict, clean, mended, lost, tie, off, Least, Alone, IsVerdict, Nearest, none, one, several, nearer, nearest, answered, judged, verdict}
 use Rattle.codes.specs.Promises.{Settled}
 
 -- ---- what is kept, of the first k data values
@@ -93,23 +94,23 @@ kept f (suc k) = step f k (nearest f k) (kept f k)
 
 module _ (C : Code) (w : ℕ) where
   -- no codeword is nearer than n, which is over the radius
-  over : (n : ℕ) → ((e : ℕ) → e < C .values → n ≤ off C w e) → C .radius < n → Is C w lost
+  over : (n : ℕ) → ((e : ℕ) → e < C .values → n ≤ off C w e) → C .radius < n → IsVerdict C w lost
   over n h l m q = let (e, v, s) = q .some in omega (arith, h e v)
 
-  judged-is : (b : Nearest) → Kept (off C w) (C .values) b → Is C w (judged (C .radius) b)
+  judged-is : (b : Nearest) → Kept (off C w) (C .values) b → IsVerdict C w (judged (C .radius) b)
   judged-is none z = λ m q. let (e, v, s) = q .some in absurd (omega arith)
   judged-is (one d n) (l, s, h) = go (leb n (C .radius)) refl
     where
-      within : (m : ℕ) → m ≤ C .radius → Alone C w d m → Is C w (answered d m)
+      within : (m : ℕ) → m ≤ C .radius → Alone C w d m → IsVerdict C w (answered d m)
       within zero r a = a
       within (suc m) r a = (a, omega arith, r)
 
-      go : (a : Bool) → leb n (C .radius) ≡ a → Is C w (choose a (answered d n) lost)
+      go : (a : Bool) → leb n (C .radius) ≡ a → IsVerdict C w (choose a (answered d n) lost)
       go true p = within n (leb-true n (C .radius) p) (record { value = l; at = s; others = h })
       go false p = over n (at-least (off C w) (C .values) d n s h) (leb-false n (C .radius) p)
   judged-is (several n) m = go (leb n (C .radius)) refl
     where
-      go : (a : Bool) → leb n (C .radius) ≡ a → Is C w (choose a tie lost)
+      go : (a : Bool) → leb n (C .radius) ≡ a → IsVerdict C w (choose a tie lost)
       go true p = (
         n,
         record { some = (m .first, m .below .0, m .at .0); least = m .least },
@@ -118,7 +119,7 @@ module _ (C : Code) (w : ℕ) where
       )
       go false p = over n (m .least) (leb-false n (C .radius) p)
 
-  pub verdict-is : Is C w (verdict C w)
+  pub verdict-is : IsVerdict C w (verdict C w)
   unfolding verdict
   verdict-is = judged-is (nearest (off C w) (C .values)) (kept (off C w) (C .values))
 
@@ -144,10 +145,10 @@ module _ (C : Code) (w : ℕ) where
       go (yes s) = s
       go (no s) = absurd (omega (arith, p .others e (q .value) (λ z. s (sym z)), q .others d (p .value) s, p .at, q .at))
 
-  alone-over : (d n : ℕ) → Alone C w d n → Is C w lost → C .radius < n
+  alone-over : (d n : ℕ) → Alone C w d n → IsVerdict C w lost → C .radius < n
   alone-over d n p q = q n (alone-least d n p)
 
-  alone-tie : (d n : ℕ) → Alone C w d n → Is C w tie → ⊥
+  alone-tie : (d n : ℕ) → Alone C w d n → IsVerdict C w tie → ⊥
   alone-tie d n p (m, l, r, t) = go (ℕ-discrete (t .first) d)
     where
       e : n ≡ m
@@ -157,10 +158,10 @@ module _ (C : Code) (w : ℕ) where
       go (yes s) = omega (arith, e, t .at .1, p .others (t .second) (t .values .1) (λ z. t .apart (s ∙ sym z)))
       go (no s) = omega (arith, e, t .at .0, p .others (t .first) (t .values .0) s)
 
-  lost-tie : Is C w lost → Is C w tie → ⊥
+  lost-tie : IsVerdict C w lost → IsVerdict C w tie → ⊥
   lost-tie p (m, l, r, t) = omega (arith, p m l)
 
-  pub one-verdict : (a b : Verdict) → Is C w a → Is C w b → a ≡ b
+  pub one-verdict : (a b : Verdict) → IsVerdict C w a → IsVerdict C w b → a ≡ b
   one-verdict (clean d) (clean e) p q = ap clean (same-data d 0 e 0 p q)
   one-verdict (clean d) (mended e m) p (q, l, r) = absurd (omega (arith, same-flips d 0 e m p q))
   one-verdict (clean d) lost p q = absurd (omega (arith, alone-over d 0 p q))

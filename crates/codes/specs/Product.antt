@@ -5,8 +5,7 @@ use mathlib.Core.Logic.{_⊎_}
 use Prim.Native.Nat.{ℕ, _+_, _*_, _^_, _≤_, _<_, min}
 use lib.Bits.{differ}
 use lib.Dec.{leb}
-use Rattle.words.specs.Word.{bit, dist, sumTo}
-use Rattle.codes.specs.Verdict.{choose}
+use Rattle.words.specs.Word.{choose, bit, dist, sumTo}
 
 -- Which words of `side` bits belong to the row code, and which to the column code: f i is the bit at place i.
 pub record Sides : Type 1 where
@@ -40,6 +39,14 @@ abbrev pub Distance4 : ℕ → ((ℕ → ℕ) → Type 0) → Type 0
 Distance4 n In =
     (f g : ℕ → ℕ) → ((i : ℕ) → f i < 2) → ((i : ℕ) → g i < 2) → In f → In g → Same n f g ⊎ (4 ≤ sumTo n (λ i. differ (f i) (g i)))
 
+-- What is proved of every product of two codes of distance 4 (`product-promises`).
+pub record ProductPromises (S : Sides) : Type 0 where
+  -- two of its words are the same, or differ in at least 16 places
+  pub distance : (u v : ℕ → ℕ) → InProduct S u → InProduct S v → Same (S .side) u v ⊎ (16 ≤ placesApart (S .side) u v)
+  -- at most one of its words is within 7 places of the word read
+  pub one-within-7 : (read u v : ℕ → ℕ) → InProduct S u → InProduct S v → placesApart (S .side) read u ≤ 7 → placesApart (S .side) read v ≤ 7
+      → Same (S .side) u v
+
 -- ---- two trials
 
 -- `fix` repairs a row: it gives a row of the row code, at most two flips away
@@ -62,3 +69,11 @@ module _ (fix : ℕ → ℕ) where
 pub record Candidate (S : Sides) (fix : ℕ → ℕ) (t : ℕ) (read c : ℕ → ℕ) : Type 0 where
   pub code : InProduct S c
   pub few : 2 * sumTo (S .side) (λ r. wrong fix t (read r) (c r)) + sumTo (S .side) (λ r. aside fix t (read r)) ≤ 3
+
+-- What is proved of the trials, for every repair of rows (`trial-promises`).
+pub record TrialPromises (S : Sides) (fix : ℕ → ℕ) : Type 0 where
+  -- a trial has at most one candidate
+  pub one-candidate : (t : ℕ) (read u v : ℕ → ℕ) → Candidate S fix t read u → Candidate S fix t read v → Same (S .side) u v
+  -- a codeword within 7 places of the word read is the candidate of trial one or of trial two
+  pub two-trials : (read c : ℕ → ℕ) → ((r : ℕ) → r < S .side → read r < 2 ^ S .side) → InProduct S c → placesApart (S .side) read c ≤ 7
+      → Candidate S fix 2 read c ⊎ Candidate S fix 1 read c

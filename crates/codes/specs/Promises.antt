@@ -6,7 +6,7 @@ use Prim.Native.Nat.{ℕ, _+_, _^_, _≤_, _<_}
 use lib.Bits.{bitXor}
 use lib.Count.{ones}
 use Rattle.words.specs.Word.{dist}
-use Rattle.codes.specs.Verdict.{Code, Verdict, clean, mended, lost, tie, off, Is, answered, verdict}
+use Rattle.codes.specs.Verdict.{Code, Verdict, clean, mended, lost, tie, off, IsVerdict, answered, verdict}
 
 -- two different codewords differ in at least D places
 abbrev pub Distance : Code → ℕ → Type 0
@@ -14,8 +14,8 @@ Distance C D = (d e : ℕ) → d < C .values → e < C .values → d ≢ e → D
 
 -- every word has a verdict, and no word has two
 pub record Settled (C : Code) (w : ℕ) : Type 0 where
-  pub has : Is C w (verdict C w)
-  pub one : (v : Verdict) → Is C w v → v ≡ verdict C w
+  pub has : IsVerdict C w (verdict C w)
+  pub one : (v : Verdict) → IsVerdict C w v → v ≡ verdict C w
 
 -- what a verdict hands out: the data d, after n flips
 abbrev pub Hands : Verdict → ℕ → ℕ → Type 0

@@ -1,10 +1,9 @@
 -- The verdict on a word that was read, as document 01 defines it: one definition for every code. Assumes nothing.
 use mathlib.Core.Path.{_≡_}
 use mathlib.Core.Logic.{_≢_}
-use mathlib.Core.Bool.{Bool, true, false}
 use Prim.Native.Nat.{ℕ, zero, suc, _≤_, _<_}
 use lib.Dec.{leb, ltb, eqb}
-use Rattle.words.specs.Word.{dist}
+use Rattle.words.specs.Word.{choose, dist}
 
 -- A code: how many data values it has (they are the numbers below that), the codeword of each, how many places a word has, and the radius.
 pub record Code : Type 0 where
@@ -47,23 +46,20 @@ pub record Alone (C : Code) (w d n : ℕ) : Type 0 where
 
 -- Let n be the least number of places in which the word read differs from a codeword. If n is over the radius: lost. If two codewords are at
 -- n and n is within the radius: tie. Otherwise the codeword is the answer: clean if n = 0, mended with n flips if not.
-abbrev pub Is : Code → ℕ → Verdict → Type 0
-Is C w (clean d) = Alone C w d 0
-Is C w (mended d n) = Alone C w d n × (0 < n) × (n ≤ C .radius)
-Is C w lost = (n : ℕ) → Least C w n → C .radius < n
-Is C w tie = (n : ℕ) × Least C w n × (n ≤ C .radius) × Two C w n
+abbrev pub IsVerdict : Code → ℕ → Verdict → Type 0
+IsVerdict C w (clean d) = Alone C w d 0
+IsVerdict C w (mended d n) = Alone C w d n × (0 < n) × (n ≤ C .radius)
+IsVerdict C w lost = (n : ℕ) → Least C w n → C .radius < n
+IsVerdict C w tie = (n : ℕ) × Least C w n × (n ≤ C .radius) × Two C w n
 
--- ---- the same as a function (`verdict-is`, `one-verdict`): the data values are gone through, and what is nearest is kept
+-- ---- the same as a function (specs/Promises.antt, `Settled`), for equations: the data values are gone through one by one, and what is
+-- nearest is kept. It is not there to be computed.
 
 -- nothing seen yet; the codeword of d at n; two or more at n
 pub data Nearest : Type 0 where
   none : Nearest
   one : ℕ → ℕ → Nearest
   several : ℕ → Nearest
-
-abbrev pub choose : {A : Type 0} → Bool → A → A → A
-choose true a b = a
-choose false a b = b
 
 -- one more codeword, that of d, at n
 unfoldable pub nearer : ℕ → ℕ → Nearest → Nearest

@@ -1,8 +1,8 @@
 -- The worked numbers hold: one computed test over the list. Assumes nothing.
-use mathlib.Core.Path.{_≡_, sym, subst}
+use mathlib.Core.Path.{subst}
 use mathlib.Core.Bool.{Bool, true}
 use mathlib.Core.List.{List, [], _∷_}
-use Prim.Native.Nat.{ℕ, _^_}
+use Prim.Native.Nat.{_^_}
 use lib.Dec.{T, ltb, eqb, ltb→lt, eqb→eq}
 use Rattle.words.proofs.Test.{both, both-left, both-right}
 use Rattle.grid.specs.Equations.{Codeword}

@@ -1,6 +1,6 @@
 -- The computed grid meets the equations, and nothing else does: sums of grids are grids, the sixteen grids of one data bit are tested, and a
 -- grid with no data place set is empty. Assumes nothing.
-use mathlib.Core.Path.{_≡_, refl, sym, ap, ap₂, _∙_, subst}
+use mathlib.Core.Path.{_≡_, sym, ap, ap₂, _∙_, subst}
 use mathlib.Core.Bool.{Bool}
 use mathlib.Core.List.{List}
 use Prim.Native.Nat.{ℕ, _+_, _*_, _/_, _%_, _^_, _<_}
@@ -126,10 +126,6 @@ module _ (g : ℕ) (p : Codeword 0 g) where
 pub one-solution : (d g h : ℕ) → Codeword d g → Codeword d h → g ≡ h
 one-solution d g h p q =
     eq-of-xor g h (empty (bitXor g h) (subst (λ (e : ℕ). Codeword e (bitXor g h)) (xor-self d) (sum-of-grids d d g h p q)))
-
--- so the equations and the computed grid say the same
-pub codeword-is : (d g : ℕ) → d < 2 ^ 16 → Codeword d g → g ≡ codeword d
-codeword-is d g l p = one-solution d g (codeword d) p (is-codeword d l)
 
 -- two data values never have the same grid
 pub one-value : (d e g : ℕ) → d < 2 ^ 16 → e < 2 ^ 16 → Codeword d g → Codeword e g → d ≡ e

@@ -17,7 +17,7 @@ use Rattle.codes.specs.Product.{Sides, InProduct, Same, placesApart}
 use Rattle.codes.specs.Address.{ByEntries}
 use Rattle.codes.specs.Promises.{Distance}
 use Rattle.codes.proofs.Address.{distance4}
-use Rattle.codes.proofs.Product.{product-distance}
+use Rattle.codes.proofs.Product.{product-promises}
 use Rattle.grid.specs.Code.{codeword, gridCode}
 use Rattle.grid.proofs.Codeword.{codeword-linear, is-codeword, one-value}
 
@@ -75,7 +75,9 @@ same-word g h p q s =
     ∙ joined-fields 8 8 h q
 
 pub distance : Distance gridCode 16
-distance d e hd he ne = go (product-distance sides (distance4 rowEntries tt) (distance4 colEntries tt) (rowOf (codeword d)) (rowOf (codeword e)) (in-product d hd) (in-product e he))
+distance d e hd he ne =
+    go (product-promises sides (distance4 rowEntries tt) (distance4 colEntries tt) .distance (rowOf (codeword d)) (rowOf (codeword e))
+    (in-product d hd) (in-product e he))
   where
     go : Same 8 (rowOf (codeword d)) (rowOf (codeword e)) ⊎ (16 ≤ placesApart 8 (rowOf (codeword d)) (rowOf (codeword e))) → 16 ≤ dist (codeword d) (codeword e)
     go (inl s) =

@@ -1,12 +1,15 @@
 -- What specs/Promises.antt says of the grid holds. Assumes nothing.
 use mathlib.Core.Path.{_≡_, refl, sym, ap, _∙_}
+use mathlib.Core.List.{List}
 use Prim.Native.Nat.{ℕ, _*_, _/_, _%_, _^_, _≤_, _<_}
 use native.Mathlib.Nat.{le-trans, le-antisymm}
 use native.Mathlib.Omega.{arith}
 use lib.Count.{ones}
 use lib.Dec.{lit<, lit≤}
-use Rattle.words.specs.Word.{bit, dist, sumTo}
-use Rattle.words.proofs.Fields.{dist-fields}
+use lib.ListN.{length, getD}
+use Rattle.words.specs.Word.{bit, dist}
+use Rattle.words.specs.Fields.{fields, joined}
+use Rattle.words.proofs.Fields.{bit-fields, joined-fields, fields-joined, dist-fields}
 use Rattle.words.proofs.Sum.{sum-eq, sum-bits}
 use Rattle.codes.specs.Promises.{States}
 use Rattle.codes.proofs.Promises.{promises, one-more-is-lost}
@@ -19,6 +22,9 @@ use Rattle.grid.proofs.Distance.{codeword-lt, distance}
 data-is : (d g : ℕ) → d < 2 ^ 16 → Codeword d g → dataOf g ≡ d
 data-is d g h p =
     sum-eq 16 (λ k. inRow g (k / 4) (k % 4) * 2 ^ k) (λ k. bit d k * 2 ^ k) (λ k l. ap (λ (x : ℕ). x * 2 ^ k) (p .data-places k l)) ∙ sum-bits 16 d h
+
+whole : (rows : List ℕ) → length rows ≡ 8 → ((r : ℕ) → getD rows r 0 < 2 ^ 8) → fields 8 8 (joined 8 rows) ≡ rows
+whole rows n h = sym (ap (λ (m : ℕ). fields 8 m (joined 8 rows)) n) ∙ fields-joined 8 rows h
 
 -- the grids of 0 and 1
 sixteen-apart : dist (codeword 0) (codeword 1) ≡ 16
@@ -37,6 +43,9 @@ states p q l h = record {
 
 pub promised : GridPromises
 promised = record {
+  places = λ g r c hr hc. sym (bit-fields 8 8 g r c hr hc);
+  there-and-back = joined-fields 8 8;
+  back-and-there = whole;
   meets = is-codeword;
   one-solution = one-solution;
   one-value = one-value;

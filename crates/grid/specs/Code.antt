@@ -12,8 +12,8 @@ gridsOfBits =
     ∷ 0xB1B1_B100_00B1_0000 ∷ 0xD2D2_D200_00D2_0000 ∷ 0x7474_7400_0074_0000 ∷ 0xE8E8_E800_00E8_0000
     ∷ 0x00B1_B1B1_B100_0000 ∷ 0x00D2_D2D2_D200_0000 ∷ 0x0074_7474_7400_0000 ∷ 0x00E8_E8E8_E800_0000 ∷ []
 
--- The grid of the data d: those of its set bits, combined by exclusive or. specs/Equations.antt says what it is; that this is the one
--- solution is proved (`codeword-is`).
+-- The grid of the data d: those of its set bits, combined by exclusive or. What it is, specs/Equations.antt says: this is the one solution
+-- (specs/Promises.antt, `meets` and `one-solution`).
 unfoldable pub codeword : ℕ → ℕ
 codeword d = combined gridsOfBits (bit d)
 

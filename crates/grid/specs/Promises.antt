@@ -2,12 +2,20 @@
 use mathlib.Core.Path.{_≡_}
 use mathlib.Core.List.{List}
 use Prim.Native.Nat.{ℕ, _^_, _<_}
-use Rattle.codes.specs.Promises.{Distance, States, Promises, OneMoreIsLost}
-use Rattle.grid.specs.Equations.{Codeword, dataOf}
+use lib.ListN.{length, getD}
+use Rattle.words.specs.Word.{bit}
+use Rattle.words.specs.Fields.{fields, joined}
+use Rattle.codes.specs.Promises.{States, Promises, OneMoreIsLost}
+use Rattle.grid.specs.Equations.{inRow, dataOf, Codeword}
 use Rattle.grid.specs.Code.{codeword, gridCode}
 use Rattle.grid.specs.Calls.{Encoded, Numbered, Parted}
 
 pub record GridPromises : Type 0 where
+  -- Row r is byte r of the number, lowest byte first, and place c of a row is bit c.
+  pub places : (g r c : ℕ) → r < 8 → c < 8 → bit (getD (fields 8 8 g) r 0) c ≡ inRow g r c
+  -- From the number to the rows and back nothing changes, nor from eight rows to the number and back.
+  pub there-and-back : (g : ℕ) → g < 2 ^ 64 → joined 8 (fields 8 8 g) ≡ g
+  pub back-and-there : (rows : List ℕ) → length rows ≡ 8 → ((r : ℕ) → getD rows r 0 < 2 ^ 8) → fields 8 8 (joined 8 rows) ≡ rows
   -- Demand 2: encoding equals the parity equations, for all 65,536 values.
   pub meets : (d : ℕ) → d < 2 ^ 16 → Codeword d (codeword d)
   -- They have one solution for each value, ..

@@ -1,4 +1,22 @@
-// The grid: eight rows of eight places.
+// The grid: eight rows of eight places, by value, and its encoder.
+//
+//     place   0 1 2 3   4 5 6   7
+//     row 0   d d d d   r r r   p     d  data: bit k at row k / 4, place k mod 4
+//     row 1   d d d d   r r r   p     r  parity of places 0 1 2, of 0 2 3, of 1 2 3 of its row
+//     row 2   d d d d   r r r   p     c  parity of rows 0 1 3, of 0 2 3, of 1 2 3 of its column
+//     row 3   d d d d   r r r   p     p  parity of places 0 to 6 of its row
+//     row 4   c c c c   c c c   p     q  parity of rows 0 to 6 of its column
+//     row 5   c c c c   c c c   p
+//     row 6   c c c c   c c c   p
+//     row 7   q q q q   q q q   q
+//
+// Each row and each column is a word of a code in which two words differ in at least four places. So
+// two grids that differ at all do so in four rows, in four places each: 16 places, and up to seven
+// flips leave a grid nearer to what was written than to anything else.
+//
+// specs/Equations.antt has the parities, specs/Calls.antt what each call promises, and
+// specs/Promises.antt what is proved of the code. As a number a grid has row r in byte r, lowest
+// byte first, and place c of a row in bit c.
 ghost use mathlib.Core.Path.{_≡_};
 ghost use Prim.Native.Nat.{ℕ, _+_, _*_, _/_, _%_, _^_, _<_};
 ghost use lib.Bits.{bitAnd};
@@ -41,12 +59,12 @@ fn upper(places: u32) -> u32
 
 // Rows 4 to 7 from rows 0 to 3. Each of them is the parity of all four but one: row 4 leaves out
 // row 2, row 5 row 1, row 6 row 0, and row 7, since rows 4 to 6 add up to row 3, leaves out row 3.
-fn lower(upper: u32) -> u32
-    ensures { λ r. ⌜ ((d : ℕ) → d < 2 ^ 16 → upper ≡ codeword d % 2 ^ 32 → r ≡ codeword d / 2 ^ 32) ⌝ }
+fn lower(rows: u32) -> u32
+    ensures { λ r. ⌜ ((d : ℕ) → d < 2 ^ 16 → rows ≡ codeword d % 2 ^ 32 → r ≡ codeword d / 2 ^ 32) ⌝ }
 {
-    let pairs = upper ^ (upper << 16) ^ (upper >> 16);
+    let pairs = rows ^ (rows << 16) ^ (rows >> 16);
     let all = pairs ^ (pairs << 8) ^ (pairs >> 24);
-    let left_out = upper ^ (pairs & 0x00FF_00FF);
+    let left_out = rows ^ (pairs & 0x00FF_00FF);
     all ^ left_out
 }
 
@@ -71,7 +89,7 @@ impl Grid {
 
     pub const DISTANCE: u32 = 16;
 
-    // The grid of a number.
+    // The grid of a data value. The constants are what they say they are, for every value.
     pub fn encode(value: u16) -> Grid
         ensures { λ r. ⌜ Encoded value (r .rows) ⌝ }
         ensures constants { λ r. do ⌜ States gridCode (← ⟦Grid::RADIUS⟧ .entry) (← ⟦Grid::LENGTH⟧ .entry) (← ⟦Grid::DISTANCE⟧ .entry) ⌝ }
@@ -81,7 +99,7 @@ impl Grid {
         Grid::of_number(((checks as u64) << 32) | (rows as u64))
     }
 
-    // The 64-bit number: row r is byte r, lowest first.
+    // The grid as a number.
     pub fn number(self) -> u64
         ensures { λ r. ⌜ Numbered (self .rows) r ⌝ }
     {
@@ -95,6 +113,7 @@ impl Grid {
         with_row(f, rows[0])
     }
 
+    // The grid that a number is.
     pub fn of_number(w: u64) -> Grid
         ensures { λ r. ⌜ Parted w (r .rows) ⌝ }
     {

@@ -1,5 +1,5 @@
 -- `dist` is a distance: the number of places that differ, and a metric. Assumes nothing.
-use mathlib.Core.Path.{_≡_, refl, sym, ap, ap₂, _∙_, subst}
+use mathlib.Core.Path.{_≡_, refl, sym, ap, ap₂, _∙_}
 use Prim.Native.Nat.{ℕ, zero, suc, _+_, _*_, _/_, _%_, _^_, _≤_, _<_, min}
 use native.Mathlib.Nat.{add-comm, div-one}
 use native.Mathlib.Omega.{arith}
@@ -50,13 +50,6 @@ pub dist-triangle : (a b c : ℕ) → dist a c ≤ dist a b + dist b c
 unfolding dist
 dist-triangle a b c = rw (← xor-by a b c) (omega (arith, ones-xor (bitXor a b) (bitXor b c)))
 
--- ---- words combined with a third
-
--- the same words moved alike are as far apart
-pub dist-moved : (a b c : ℕ) → dist (bitXor c a) (bitXor c b) ≡ dist a b
-unfolding dist
-dist-moved a b c = ap (λ (x : ℕ). ones (bitXor x (bitXor c b))) (xor-comm c a) ∙ ap ones (xor-by a c b)
-
 -- flips on a word are as many as the pattern has ones
 pub dist-flips : (a p : ℕ) → dist (bitXor a p) a ≡ ones p
 unfolding dist
@@ -64,7 +57,7 @@ dist-flips a p = ap ones (xor-comm (bitXor a p) a ∙ xor-cancel-l a p)
 
 -- ---- place by place
 
-pub dist-step : (a b : ℕ) → dist a b ≡ differ (a % 2) (b % 2) + dist (a / 2) (b / 2)
+dist-step : (a b : ℕ) → dist a b ≡ differ (a % 2) (b % 2) + dist (a / 2) (b / 2)
 unfolding dist
 dist-step a b = ones-step (bitXor a b) ∙ ap₂ (λ (x y : ℕ). x + ones y) (xor-odd a b) (xor-half a b)
 

@@ -6,8 +6,8 @@ use Prim.Native.Nat.{ℕ, zero, suc, _+_, _*_, _/_, _%_, _^_, _<_}
 use native.Mathlib.Nat.{mod-lt, le-of-suc-le-suc, not-suc-le-zero, suc-mul, add-comm, zero-mul, mod-eq-of-lt}
 use native.Mathlib.Omega.{arith}
 use lib.ListN.{length, getD}
-use lib.Arith.{digits-lt, lt-one}
-use lib.Pow.{pow-pos, pow-add, shl-lt, shr-lt, split, high, low}
+use lib.Arith.{lt-one}
+use lib.Pow.{pow-pos, shl-lt, shr-lt, split, high, low}
 use lib.Bits.{bitXor, bitOr, or-shifted, xor-block, xor-lt}
 use lib.Count.{ones, ones-cat}
 use Rattle.words.specs.Word.{bit, dist, sumTo}
@@ -29,12 +29,6 @@ pub fields-below : (k n w : ℕ) → Below k (fields k n w)
 fields-below k zero w i = pow-pos k
 fields-below k (suc n) w zero = mod-lt w (pow-pos k)
 fields-below k (suc n) w (suc i) = fields-below k n (w / 2 ^ k) i
-
-pub joined-lt : (k : ℕ) (xs : List ℕ) → Below k xs → joined k xs < 2 ^ (length xs * k)
-joined-lt k [] h = subst (λ (m : ℕ). 0 < 2 ^ m) (sym (zero-mul k)) (pow-pos 0)
-joined-lt k (x ∷ xs) h =
-    subst (λ (m : ℕ). joined k xs * 2 ^ k + x < m) (sym (ap (λ (m : ℕ). 2 ^ m) (suc-mul (length xs) k) ∙ pow-add 2 (length xs * k) k))
-    (digits-lt (joined-lt k xs (λ i. h (suc i))) (h 0))
 
 pub joined-fields : (k n w : ℕ) → w < 2 ^ (n * k) → joined k (fields k n w) ≡ w
 joined-fields k zero w h = sym (lt-one (subst (λ (m : ℕ). w < 2 ^ m) (zero-mul k) h))

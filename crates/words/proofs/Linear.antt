@@ -3,8 +3,8 @@
 use mathlib.Core.Path.{_≡_, refl, sym, ap, ap₂, _∙_, subst}
 use mathlib.Core.Logic.{_⊎_, inl, inr}
 use mathlib.Core.List.{List, [], _∷_}
-use Prim.Native.Nat.{ℕ, zero, suc, _+_, _*_, _/_, _%_, _^_, _≤_, _<_}
-use native.Mathlib.Nat.{mod-lt, zero-lt-suc, le-refl, zero-mul, one-mul, zero-add}
+use Prim.Native.Nat.{ℕ, zero, suc, _+_, _*_, _/_, _%_, _^_, _<_}
+use native.Mathlib.Nat.{mod-lt, le-refl, zero-mul, one-mul, zero-add}
 use native.Mathlib.Numerals.{one-add}
 use native.Mathlib.Omega.{arith}
 use lib.ListN.{getD}
@@ -13,7 +13,7 @@ use lib.Pow.{pow-pos, shr-lt, split}
 use lib.Bits.{bitXor, bitAnd, differ, xor-self, xor-zero-r, xor-shr, xor-mod, xor-shifted}
 use Rattle.words.specs.Word.{bit, picked, combined}
 use Rattle.words.specs.Fields.{fields}
-use Rattle.words.proofs.Bit.{by-bit, bit-lt, bit-xor, bit-zero, bit-half}
+use Rattle.words.proofs.Bit.{by-bit, bit-lt, bit-xor}
 use Rattle.words.proofs.Xor.{xor-swap, xor-shl, xor-mask}
 
 pub record Linear (f : ℕ → ℕ) : Type 0 where

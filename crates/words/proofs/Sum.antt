@@ -1,7 +1,6 @@
 -- Sums and parities over places: equal where the terms are, in order where the terms are. Assumes nothing.
 use mathlib.Core.Path.{_≡_, refl, sym, ap, ap₂, _∙_}
 use mathlib.Core.List.{List, [], _∷_}
-use mathlib.Core.Bool.{Bool, true, false}
 use Prim.Native.Nat.{ℕ, zero, suc, _+_, _*_, _/_, _%_, _^_, _≤_, _<_, suc-le-suc}
 use native.Mathlib.Nat.{zero-lt-suc, le-of-suc-le-suc, zero-mul, add-mul, mul-assoc, div-one, pow-suc}
 use native.Mathlib.Decide.{ℕ-discrete}
