@@ -61,7 +61,8 @@ one-set : (q : ℕ → Bool) (hs : List ℕ) (f : ℕ → ℕ) → T (every q hs
 one-set q [] f t e = absurd (omega arith)
 one-set q (h ∷ hs) f t e = go (bit-cases (f 0) (omega arith)) (one-set q hs (λ i. f (suc i)) (both-right (q h) (every q hs) t))
   where
-    go : (f 0 ≡ 0) ⊎ (f 0 ≡ 1) → (sumTo (length hs) (λ i. f (suc i)) ≡ 1 → T (q (combined hs (λ i. f (suc i))))) → T (q (combined (h ∷ hs) f))
+    go : (f 0 ≡ 0) ⊎ (f 0 ≡ 1) → (sumTo (length hs) (λ i. f (suc i)) ≡ 1 → T (q (combined hs (λ i. f (suc i)))))
+        → T (q (combined (h ∷ hs) f))
     go (inl z) r = subst (λ (x : ℕ). T (q x)) (sym (unset (f 0) h (combined hs (λ i. f (suc i))) z)) (r (omega arith))
     go (inr z) r =
         subst (λ (x : ℕ). T (q x))
@@ -92,20 +93,23 @@ parity (h ∷ hs) f t b = go (bit-cases (f 0) (b 0)) (parity hs (λ i. f (suc i)
     flip : (y : ℕ) → y < 2 → differ 1 y + y ≡ 1
     flip y h = by-bit (λ (y : ℕ). differ 1 y + y ≡ 1) refl refl y h
 
-    go : (f 0 ≡ 0) ⊎ (f 0 ≡ 1) → x % 2 ≡ sumTo (length hs) (λ i. f (suc i)) % 2 → combined (h ∷ hs) f % 2 ≡ (f 0 + sumTo (length hs) (λ i. f (suc i))) % 2
+    go : (f 0 ≡ 0) ⊎ (f 0 ≡ 1) → x % 2 ≡ sumTo (length hs) (λ i. f (suc i)) % 2
+        → combined (h ∷ hs) f % 2 ≡ (f 0 + sumTo (length hs) (λ i. f (suc i))) % 2
     go (inl z) r = omega (arith, unset (f 0) h x z)
     go (inr z) r =
         omega (arith, set (f 0) h x z, xor-odd h x ∙ ap (λ (y : ℕ). differ y (x % 2)) (first-odd h hs t), flip (x % 2) (omega arith))
 
 -- ---- so a word of the code that is not empty has at least four places set
 
-weight : (hs : List ℕ) (f : ℕ → ℕ) → T (fit? hs) → ((i : ℕ) → f i < 2) → combined hs f ≡ 0 → (sumTo (length hs) f ≡ 0) ⊎ (4 ≤ sumTo (length hs) f)
+weight : (hs : List ℕ) (f : ℕ → ℕ) → T (fit? hs) → ((i : ℕ) → f i < 2) → combined hs f ≡ 0
+    → (sumTo (length hs) f ≡ 0) ⊎ (4 ≤ sumTo (length hs) f)
 weight hs f t b z = go (decLe 4 (sumTo (length hs) f)) (eq-zero-or-pos (sumTo (length hs) f))
   where
     even : sumTo (length hs) f % 2 ≡ 0
     even = sym (parity hs f t b) ∙ ap (λ (x : ℕ). x % 2) z
 
-    go : Dec (4 ≤ sumTo (length hs) f) → (sumTo (length hs) f ≡ 0) ⊎ (0 < sumTo (length hs) f) → (sumTo (length hs) f ≡ 0) ⊎ (4 ≤ sumTo (length hs) f)
+    go : Dec (4 ≤ sumTo (length hs) f) → (sumTo (length hs) f ≡ 0) ⊎ (0 < sumTo (length hs) f)
+        → (sumTo (length hs) f ≡ 0) ⊎ (4 ≤ sumTo (length hs) f)
     go (yes l) p = inr l
     go (no l) (inl p) = inl p
     go (no l) (inr p) = absurd (two-set hs f t b (omega (arith, even)) z)

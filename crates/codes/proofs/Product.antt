@@ -26,7 +26,8 @@ differs-cases a b = go (eq-zero-or-pos (dist a b))
 
 -- a column differs in no more places than rows do
 col-apart : (n c : ℕ) (u v : ℕ → ℕ) → sumTo n (λ r. differ (bit (u r) c) (bit (v r) c)) ≤ rowsApart n u v
-col-apart n c u v = sum-le n (λ r. differ (bit (u r) c) (bit (v r) c)) (λ r. differs (u r) (v r)) (λ r h. go (u r) (v r) (differs-cases (u r) (v r)))
+col-apart n c u v =
+    sum-le n (λ r. differ (bit (u r) c) (bit (v r) c)) (λ r. differs (u r) (v r)) (λ r h. go (u r) (v r) (differs-cases (u r) (v r)))
   where
     go : (a b : ℕ) → Differs a b → differ (bit a c) (bit b c) ≤ differs a b
     go a b (inl (e, z)) = omega (arith, ap (λ (x : ℕ). differ (bit a c) (bit x c)) (sym e) ∙ differ-self (bit a c))
@@ -47,7 +48,8 @@ module _ (S : Sides) (row4 : Distance4 (S .side) (S .Row)) (col4 : Distance4 (S 
       go (inr f) = inr (omega (arith, dist-places (S .side) a b ha hb))
 
   -- each row that differs does so in four places
-  rows-weight : (n : ℕ) (u v : ℕ → ℕ) → ((r : ℕ) → r < n → (u r ≡ v r) ⊎ (4 ≤ dist (u r) (v r))) → 4 * rowsApart n u v ≤ placesApart n u v
+  rows-weight : (n : ℕ) (u v : ℕ → ℕ) → ((r : ℕ) → r < n → (u r ≡ v r) ⊎ (4 ≤ dist (u r) (v r)))
+      → 4 * rowsApart n u v ≤ placesApart n u v
   rows-weight zero u v h = omega arith
   rows-weight (suc n) u v h =
       omega (arith, one (u 0) (v 0) (h 0 (zero-lt-suc n)), rows-weight n (λ r. u (suc r)) (λ r. v (suc r)) (λ r l. h (suc r) (suc-le-suc l)))
@@ -85,7 +87,8 @@ module _ (S : Sides) (row4 : Distance4 (S .side) (S .Row)) (col4 : Distance4 (S 
                 (λ r h. row-far (u r) (v r) (hu .fits r h) (hv .fits r h) (hu .rows r h) (hv .rows r h)),
           ))
 
-  one-within-7 : (read u v : ℕ → ℕ) → InProduct S u → InProduct S v → placesApart (S .side) read u ≤ 7 → placesApart (S .side) read v ≤ 7 → Same (S .side) u v
+  one-within-7 : (read u v : ℕ → ℕ) → InProduct S u → InProduct S v → placesApart (S .side) read u ≤ 7 → placesApart (S .side) read v ≤ 7
+      → Same (S .side) u v
   one-within-7 read u v hu hv du dv = go (distance u v hu hv)
     where
       go : Same (S .side) u v ⊎ (16 ≤ placesApart (S .side) u v) → Same (S .side) u v

@@ -37,15 +37,16 @@ rowsApart n u v = sumTo n (λ r. differs (u r) (v r))
 -- of a code of n bits: two words of it are the same, or differ in at least four places
 abbrev pub Distance4 : ℕ → ((ℕ → ℕ) → Type 0) → Type 0
 Distance4 n In =
-    (f g : ℕ → ℕ) → ((i : ℕ) → f i < 2) → ((i : ℕ) → g i < 2) → In f → In g → Same n f g ⊎ (4 ≤ sumTo n (λ i. differ (f i) (g i)))
+    (f g : ℕ → ℕ) → ((i : ℕ) → f i < 2) → ((i : ℕ) → g i < 2) → In f → In g
+    → Same n f g ⊎ (4 ≤ sumTo n (λ i. differ (f i) (g i)))
 
 -- What is proved of every product of two codes of distance 4 (`product-promises`).
 pub record ProductPromises (S : Sides) : Type 0 where
   -- two of its words are the same, or differ in at least 16 places
   pub distance : (u v : ℕ → ℕ) → InProduct S u → InProduct S v → Same (S .side) u v ⊎ (16 ≤ placesApart (S .side) u v)
   -- at most one of its words is within 7 places of the word read
-  pub one-within-7 : (read u v : ℕ → ℕ) → InProduct S u → InProduct S v → placesApart (S .side) read u ≤ 7 → placesApart (S .side) read v ≤ 7
-      → Same (S .side) u v
+  pub one-within-7 : (read u v : ℕ → ℕ) → InProduct S u → InProduct S v
+      → placesApart (S .side) read u ≤ 7 → placesApart (S .side) read v ≤ 7 → Same (S .side) u v
 
 -- ---- two trials
 
@@ -75,5 +76,5 @@ pub record TrialPromises (S : Sides) (fix : ℕ → ℕ) : Type 0 where
   -- a trial has at most one candidate
   pub one-candidate : (t : ℕ) (read u v : ℕ → ℕ) → Candidate S fix t read u → Candidate S fix t read v → Same (S .side) u v
   -- a codeword within 7 places of the word read is the candidate of trial one or of trial two
-  pub two-trials : (read c : ℕ → ℕ) → ((r : ℕ) → r < S .side → read r < 2 ^ S .side) → InProduct S c → placesApart (S .side) read c ≤ 7
-      → Candidate S fix 2 read c ⊎ Candidate S fix 1 read c
+  pub two-trials : (read c : ℕ → ℕ) → ((r : ℕ) → r < S .side → read r < 2 ^ S .side) → InProduct S c
+      → placesApart (S .side) read c ≤ 7 → Candidate S fix 2 read c ⊎ Candidate S fix 1 read c

@@ -20,7 +20,8 @@ all-right? (c ∷ cs) = both (right? c) (all-right? cs)
 right : (c : Case) → T (right? c) → Codeword (c .value) (c .grid)
 unfolding right?
 right c t =
-    subst (Codeword (c .value)) (eqb→eq (codeword (c .value)) (c .grid) (both-right (ltb (c .value) (2 ^ 16)) (eqb (codeword (c .value)) (c .grid)) t))
+    subst (Codeword (c .value))
+    (eqb→eq (codeword (c .value)) (c .grid) (both-right (ltb (c .value) (2 ^ 16)) (eqb (codeword (c .value)) (c .grid)) t))
     (is-codeword (c .value) (ltb→lt (c .value) (2 ^ 16) (both-left (ltb (c .value) (2 ^ 16)) (eqb (codeword (c .value)) (c .grid)) t)))
 
 each : (cs : List Case) → T (all-right? cs) → Hold cs

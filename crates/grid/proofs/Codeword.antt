@@ -34,7 +34,8 @@ pub sum-of-grids : (d e g h : ℕ) → Codeword d g → Codeword e h → Codewor
 sum-of-grids d e g h p q = record {
   fits = xor-lt 64 g h (p .fits) (q .fits);
   data-places = λ k l.
-      bit-xor-sum g h (8 * (k / 4) + k % 4) ∙ ap₂ (λ (x y : ℕ). (x + y) % 2) (p .data-places k l) (q .data-places k l) ∙ sym (bit-xor-sum d e k);
+      bit-xor-sum g h (8 * (k / 4) + k % 4) ∙ ap₂ (λ (x y : ℕ). (x + y) % 2) (p .data-places k l) (q .data-places k l)
+      ∙ sym (bit-xor-sum d e k);
   place4 = λ r l. in-row g h r (p .place4 r l) (q .place4 r l);
   place5 = λ r l. in-row g h r (p .place5 r l) (q .place5 r l);
   place6 = λ r l. in-row g h r (p .place6 r l) (q .place6 r l);
@@ -57,7 +58,8 @@ module _ (line : ℕ → ℕ → ℕ → ℕ) (n t : ℕ) where
   holds? : List ℕ → ℕ → ℕ → Bool
   holds? is k r = eqb (line (codeword (2 ^ k)) r t) (sumOver (line (codeword (2 ^ k)) r) is % 2)
 
-  tested : {is : List ℕ} → T (allPairs 16 n (holds? is)) → (k : ℕ) → k < 16 → (r : ℕ) → r < n → IsParity (line (codeword (2 ^ k)) r) t is
+  tested : {is : List ℕ} → T (allPairs 16 n (holds? is)) → (k : ℕ) → k < 16 → (r : ℕ) → r < n
+      → IsParity (line (codeword (2 ^ k)) r) t is
   unfolding holds?
   tested {is} x k l r h = record {
     parity = eqb→eq (line (codeword (2 ^ k)) r t) (sumOver (line (codeword (2 ^ k)) r) is % 2) (at-pair 16 n (holds? is) x k r l h);

@@ -79,7 +79,8 @@ distance d e hd he ne =
     go (product-promises sides (distance4 rowEntries tt) (distance4 colEntries tt) .distance (rowOf (codeword d)) (rowOf (codeword e))
     (in-product d hd) (in-product e he))
   where
-    go : Same 8 (rowOf (codeword d)) (rowOf (codeword e)) ⊎ (16 ≤ placesApart 8 (rowOf (codeword d)) (rowOf (codeword e))) → 16 ≤ dist (codeword d) (codeword e)
+    go : Same 8 (rowOf (codeword d)) (rowOf (codeword e)) ⊎ (16 ≤ placesApart 8 (rowOf (codeword d)) (rowOf (codeword e)))
+        → 16 ≤ dist (codeword d) (codeword e)
     go (inl s) =
         absurd (ne (one-value d e (codeword d) hd he (is-codeword d hd)
         (rw (same-word (codeword d) (codeword e) (codeword-lt d hd) (codeword-lt e he) s) (is-codeword e he))))

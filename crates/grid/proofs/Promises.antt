@@ -21,7 +21,8 @@ use Rattle.grid.proofs.Distance.{codeword-lt, distance}
 
 data-is : (d g : ℕ) → d < 2 ^ 16 → Codeword d g → dataOf g ≡ d
 data-is d g h p =
-    sum-eq 16 (λ k. inRow g (k / 4) (k % 4) * 2 ^ k) (λ k. bit d k * 2 ^ k) (λ k l. ap (λ (x : ℕ). x * 2 ^ k) (p .data-places k l)) ∙ sum-bits 16 d h
+    sum-eq 16 (λ k. inRow g (k / 4) (k % 4) * 2 ^ k) (λ k. bit d k * 2 ^ k) (λ k l. ap (λ (x : ℕ). x * 2 ^ k) (p .data-places k l))
+    ∙ sum-bits 16 d h
 
 whole : (rows : List ℕ) → length rows ≡ 8 → ((r : ℕ) → getD rows r 0 < 2 ^ 8) → fields 8 8 (joined 8 rows) ≡ rows
 whole rows n h = sym (ap (λ (m : ℕ). fields 8 m (joined 8 rows)) n) ∙ fields-joined 8 rows h

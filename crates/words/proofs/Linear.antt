@@ -102,6 +102,7 @@ by-places P z s (suc n) p x h = go (by-places P z s n (λ k l. p k (omega arith)
     go r (inr e) = subst P (sym e) (s (2 ^ n) (x % 2 ^ n) (p n (le-refl (suc n))) r)
 
 -- two linear maps that agree at each place below n agree on all words of n bits
-pub linear-agree : {f g : ℕ → ℕ} → Linear f → Linear g → (n : ℕ) → ((k : ℕ) → k < n → f (2 ^ k) ≡ g (2 ^ k)) → (x : ℕ) → x < 2 ^ n → f x ≡ g x
+pub linear-agree : {f g : ℕ → ℕ} → Linear f → Linear g → (n : ℕ) → ((k : ℕ) → k < n → f (2 ^ k) ≡ g (2 ^ k))
+    → (x : ℕ) → x < 2 ^ n → f x ≡ g x
 linear-agree {f} {g} l m n =
     by-places (λ (x : ℕ). f x ≡ g x) (linear-zero l ∙ sym (linear-zero m)) (λ a b p q. l .sum a b ∙ ap₂ bitXor p q ∙ sym (m .sum a b)) n

@@ -13,7 +13,8 @@ use Rattle.words.proofs.Test.{every, both-left, both-right}
 
 pub sum-eq : (n : ℕ) (f g : ℕ → ℕ) → ((i : ℕ) → i < n → f i ≡ g i) → sumTo n f ≡ sumTo n g
 sum-eq zero f g h = refl
-sum-eq (suc n) f g h = ap₂ (λ (x y : ℕ). x + y) (h 0 (zero-lt-suc n)) (sum-eq n (λ i. f (suc i)) (λ i. g (suc i)) (λ i l. h (suc i) (suc-le-suc l)))
+sum-eq (suc n) f g h =
+    ap₂ (λ (x y : ℕ). x + y) (h 0 (zero-lt-suc n)) (sum-eq n (λ i. f (suc i)) (λ i. g (suc i)) (λ i l. h (suc i) (suc-le-suc l)))
 
 pub sum-le : (n : ℕ) (f g : ℕ → ℕ) → ((i : ℕ) → i < n → f i ≤ g i) → sumTo n f ≤ sumTo n g
 sum-le zero f g h = omega arith
@@ -42,7 +43,8 @@ sum-bits (suc n) w h =
 -- ---- parities
 
 -- the parity of a sum that is taken place by place
-parity-sum : (f g h : ℕ → ℕ) → ((i : ℕ) → h i ≡ (f i + g i) % 2) → (is : List ℕ) → sumOver h is % 2 ≡ (sumOver f is + sumOver g is) % 2
+parity-sum : (f g h : ℕ → ℕ) → ((i : ℕ) → h i ≡ (f i + g i) % 2) → (is : List ℕ)
+    → sumOver h is % 2 ≡ (sumOver f is + sumOver g is) % 2
 parity-sum f g h e [] = refl
 parity-sum f g h e (i ∷ is) =
     first (f i + g i) (h i) (sumOver h is) (e i) ∙ rest (f i) (g i) (sumOver f is) (sumOver g is) (sumOver h is) (parity-sum f g h e is)
@@ -54,7 +56,8 @@ parity-sum f g h e (i ∷ is) =
     rest x y a b r p = omega arith
 
 -- two words that meet a parity equation: so does their sum
-pub parity-rule : {f g : ℕ → ℕ} {t : ℕ} {is : List ℕ} → IsParity f t is → IsParity g t is → (h : ℕ → ℕ) → ((i : ℕ) → h i ≡ (f i + g i) % 2) → IsParity h t is
+pub parity-rule : {f g : ℕ → ℕ} {t : ℕ} {is : List ℕ} → IsParity f t is → IsParity g t is
+    → (h : ℕ → ℕ) → ((i : ℕ) → h i ≡ (f i + g i) % 2) → IsParity h t is
 parity-rule {f} {g} {t} {is} p q h e = record {
   parity = e t ∙ ap₂ (λ (x y : ℕ). (x + y) % 2) (p .parity) (q .parity) ∙ mods (sumOver f is) (sumOver g is) ∙ sym (parity-sum f g h e is);
 }

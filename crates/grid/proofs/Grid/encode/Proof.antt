@@ -19,7 +19,8 @@ encoded : (d high low : ℕ) (rows : List ℕ) → d < 2 ^ 16 → high ≡ codew
 encoded d high low rows h p q e =
     let fits : codeword d < 2 ^ 64 = is-codeword d h .fits in
     let are : rows ≡ fields 8 8 (codeword d) =
-    e ∙ ap₂ {C = List ℕ} (λ (l u : ℕ). fields 8 8 (bitOr (l * 2 ^ 32 % 2 ^ 64) u)) q p ∙ ap (fields 8 8) (both-parts 32 32 (codeword d) fits) in
+    e ∙ ap₂ {C = List ℕ} (λ (l u : ℕ). fields 8 8 (bitOr (l * 2 ^ 32 % 2 ^ 64) u)) q p
+    ∙ ap (fields 8 8) (both-parts 32 32 (codeword d) fits) in
     record {
       answer = are;
       meets = subst (Codeword d) (sym (ap (joined 8) are ∙ joined-fields 8 8 (codeword d) fits)) (is-codeword d h);
