@@ -46,15 +46,15 @@ module _ (h : ℕ) (hs : List ℕ) (t : T (fit? (h ∷ hs))) where
 bit-cases : (x : ℕ) → x < 2 → (x ≡ 0) ⊎ (x ≡ 1)
 bit-cases x h = by-bit (λ (y : ℕ). (y ≡ 0) ⊎ (y ≡ 1)) (inl refl) (inr refl) x h
 
-unset : (x h r : ℕ) → x ≡ 0 → bitXor (picked x h) r ≡ r
-unset x h r e = ap (λ (y : ℕ). bitXor (picked y h) r) e
+pick-none : (x h r : ℕ) → x ≡ 0 → bitXor (picked x h) r ≡ r
+pick-none x h r e = ap (λ (y : ℕ). bitXor (picked y h) r) e
 
-set : (x h r : ℕ) → x ≡ 1 → bitXor (picked x h) r ≡ bitXor h r
-set x h r e = ap (λ (y : ℕ). bitXor (picked y h) r) e
+pick-one : (x h r : ℕ) → x ≡ 1 → bitXor (picked x h) r ≡ bitXor h r
+pick-one x h r e = ap (λ (y : ℕ). bitXor (picked y h) r) e
 
 none-set : (hs : List ℕ) (f : ℕ → ℕ) → sumTo (length hs) f ≡ 0 → combined hs f ≡ 0
 none-set [] f e = refl
-none-set (h ∷ hs) f e = unset (f 0) h (combined hs (λ i. f (suc i))) (omega arith) ∙ none-set hs (λ i. f (suc i)) (omega arith)
+none-set (h ∷ hs) f e = pick-none (f 0) h (combined hs (λ i. f (suc i))) (omega arith) ∙ none-set hs (λ i. f (suc i)) (omega arith)
 
 -- one place is set: its entry is left, and passes every test that all entries pass
 one-set : (q : ℕ → Bool) (hs : List ℕ) (f : ℕ → ℕ) → T (every q hs) → sumTo (length hs) f ≡ 1 → T (q (combined hs f))
@@ -63,10 +63,10 @@ one-set q (h ∷ hs) f t e = go (bit-cases (f 0) (omega arith)) (one-set q hs (�
   where
     go : (f 0 ≡ 0) ⊎ (f 0 ≡ 1) → (sumTo (length hs) (λ i. f (suc i)) ≡ 1 → T (q (combined hs (λ i. f (suc i)))))
         → T (q (combined (h ∷ hs) f))
-    go (inl z) r = subst (λ (x : ℕ). T (q x)) (sym (unset (f 0) h (combined hs (λ i. f (suc i))) z)) (r (omega arith))
+    go (inl z) r = subst (λ (x : ℕ). T (q x)) (sym (pick-none (f 0) h (combined hs (λ i. f (suc i))) z)) (r (omega arith))
     go (inr z) r =
         subst (λ (x : ℕ). T (q x))
-        (sym (set (f 0) h (combined hs (λ i. f (suc i))) z ∙ ap (bitXor h) (none-set hs (λ i. f (suc i)) (omega arith)) ∙ xor-zero-r h))
+        (sym (pick-one (f 0) h (combined hs (λ i. f (suc i))) z ∙ ap (bitXor h) (none-set hs (λ i. f (suc i)) (omega arith)) ∙ xor-zero-r h))
         (both-left (q h) (every q hs) t)
 
 two-set : (hs : List ℕ) (f : ℕ → ℕ) → T (fit? hs) → ((i : ℕ) → f i < 2) → sumTo (length hs) f ≡ 2 → combined hs f ≢ 0
@@ -74,10 +74,10 @@ two-set [] f t b e z = absurd (omega arith)
 two-set (h ∷ hs) f t b e z = go (bit-cases (f 0) (b 0)) (two-set hs (λ i. f (suc i)) (rest-fit h hs t) (λ i. b (suc i)))
   where
     go : (f 0 ≡ 0) ⊎ (f 0 ≡ 1) → (sumTo (length hs) (λ i. f (suc i)) ≡ 2 → combined hs (λ i. f (suc i)) ≢ 0) → ⊥
-    go (inl c) r = r (omega arith) (sym (unset (f 0) h (combined hs (λ i. f (suc i))) c) ∙ z)
+    go (inl c) r = r (omega arith) (sym (pick-none (f 0) h (combined hs (λ i. f (suc i))) c) ∙ z)
     go (inr c) r =
         let x : ℕ = combined hs (λ i. f (suc i)) in
-        let s : h ≡ x = eq-of-xor h x (sym (set (f 0) h x c) ∙ z) in
+        let s : h ≡ x = eq-of-xor h x (sym (pick-one (f 0) h x c) ∙ z) in
         T-not (eqb x h) (one-set (λ x. not (eqb x h)) hs (λ i. f (suc i)) (others h hs t) (omega arith))
         (subst (λ (y : ℕ). T (eqb x y)) (sym s) (eqb-refl x))
 
@@ -95,9 +95,9 @@ parity (h ∷ hs) f t b = go (bit-cases (f 0) (b 0)) (parity hs (λ i. f (suc i)
 
     go : (f 0 ≡ 0) ⊎ (f 0 ≡ 1) → x % 2 ≡ sumTo (length hs) (λ i. f (suc i)) % 2
         → combined (h ∷ hs) f % 2 ≡ (f 0 + sumTo (length hs) (λ i. f (suc i))) % 2
-    go (inl z) r = omega (arith, unset (f 0) h x z)
+    go (inl z) r = omega (arith, pick-none (f 0) h x z)
     go (inr z) r =
-        omega (arith, set (f 0) h x z, xor-odd h x ∙ ap (λ (y : ℕ). differ y (x % 2)) (first-odd h hs t), flip (x % 2) (omega arith))
+        omega (arith, pick-one (f 0) h x z, xor-odd h x ∙ ap (λ (y : ℕ). differ y (x % 2)) (first-odd h hs t), flip (x % 2) (omega arith))
 
 -- ---- so a word of the code that is not empty has at least four places set
 

@@ -50,9 +50,9 @@ OneMoreIsLost C = (d p : ℕ) → d < C .values → ones p ≡ C .radius + 1 →
 
 -- What a code's own constants say of it: its radius, its length in places, and the distance, which two of its codewords have and no two
 -- undercut.
-pub record States (C : Code) (radius length distance : ℕ) : Type 0 where
+pub record States (C : Code) (radius places distance : ℕ) : Type 0 where
   pub radius-is : radius ≡ C .radius
-  pub length-is : length ≡ C .length
-  pub fits : (d : ℕ) → d < C .values → C .encode d < 2 ^ C .length
+  pub places-are : places ≡ C .places
+  pub fits : (d : ℕ) → d < C .values → C .encode d < 2 ^ C .places
   pub apart : Distance C distance
   pub reached : (d : ℕ) × (e : ℕ) × (d < C .values) × (e < C .values) × (d ≢ e) × (dist (C .encode d) (C .encode e) ≡ distance)

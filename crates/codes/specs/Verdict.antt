@@ -9,7 +9,7 @@ use Rattle.words.specs.Word.{choose, dist}
 pub record Code : Type 0 where
   pub values : ℕ
   pub encode : ℕ → ℕ
-  pub length : ℕ
+  pub places : ℕ
   pub radius : ℕ
 
 -- clean d: the data is d. mended d n: the data is d, after n flips.

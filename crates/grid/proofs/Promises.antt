@@ -33,10 +33,10 @@ unfolding codeword dist ones
 sixteen-apart = dist-fields 8 8 (codeword 0) (codeword 1) (lit< tt) (lit< tt)
 
 -- two grids are 16 places apart or more, and some no more
-states : {radius length n : ℕ} → radius ≡ 7 → length ≡ 64 → n ≤ 16 → 16 ≤ n → States gridCode radius length n
+states : {radius places n : ℕ} → radius ≡ 7 → places ≡ 64 → n ≤ 16 → 16 ≤ n → States gridCode radius places n
 states p q l h = record {
   radius-is = p;
-  length-is = q;
+  places-are = q;
   fits = codeword-lt;
   apart = λ d e hd he ne. le-trans l (distance d e hd he ne);
   reached = (0, 1, lit< tt, lit< tt, (λ e. absurd (omega arith)), sixteen-apart ∙ le-antisymm h l);

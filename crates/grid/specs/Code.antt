@@ -18,4 +18,4 @@ unfoldable pub codeword : ℕ → ℕ
 codeword d = combined gridsOfBits (bit d)
 
 abbrev pub gridCode : Code
-gridCode = record { values = 2 ^ 16; encode = codeword; length = 64; radius = 7 }
+gridCode = record { values = 2 ^ 16; encode = codeword; places = 64; radius = 7 }

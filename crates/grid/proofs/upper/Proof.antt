@@ -22,44 +22,44 @@ six d = bitXor (bitXor (d / 2) (d / 4)) (d / 8)
 seven : ℕ → ℕ
 seven d = bitXor (bitXor (bitXor (bitXor (bitXor (bitXor d (d / 2)) (d / 4)) (d / 8)) (four d)) (five d)) (six d)
 
-set : ℕ → (ℕ → ℕ) → ℕ → ℕ
-set i f d = bitAnd (f d) 0x0101_0101 * 2 ^ i % 2 ^ 32
+put : ℕ → (ℕ → ℕ) → ℕ → ℕ
+put i f d = bitAnd (f d) 0x0101_0101 * 2 ^ i % 2 ^ 32
 
 made : ℕ → ℕ
-made d = bitXor (bitXor (bitXor (bitXor d (set 4 four d)) (set 5 five d)) (set 6 six d)) (set 7 seven d)
+made d = bitXor (bitXor (bitXor (bitXor d (put 4 four d)) (put 5 five d)) (put 6 six d)) (put 7 seven d)
 
-place : (k : ℕ) → Linear (λ d. d / 2 ^ k)
-place = shr-linear same-linear
+shifted : (k : ℕ) → Linear (λ d. d / 2 ^ k)
+shifted = shr-linear same-linear
 
 four-linear : Linear four
 unfolding four
-four-linear = xor-linear (xor-linear same-linear (place 1)) (place 2)
+four-linear = xor-linear (xor-linear same-linear (shifted 1)) (shifted 2)
 
 five-linear : Linear five
 unfolding five
-five-linear = xor-linear (xor-linear same-linear (place 2)) (place 3)
+five-linear = xor-linear (xor-linear same-linear (shifted 2)) (shifted 3)
 
 six-linear : Linear six
 unfolding six
-six-linear = xor-linear (xor-linear (place 1) (place 2)) (place 3)
+six-linear = xor-linear (xor-linear (shifted 1) (shifted 2)) (shifted 3)
 
 seven-linear : Linear seven
 unfolding seven
 seven-linear =
-    xor-linear (xor-linear (xor-linear (xor-linear (xor-linear (xor-linear same-linear (place 1)) (place 2)) (place 3)) four-linear) five-linear) six-linear
+    xor-linear (xor-linear (xor-linear (xor-linear (xor-linear (xor-linear same-linear (shifted 1)) (shifted 2)) (shifted 3)) four-linear) five-linear) six-linear
 
-set-linear : (i : ℕ) {f : ℕ → ℕ} → Linear f → Linear (set i f)
-unfolding set
-set-linear i l = shl-linear (mask-linear l 0x0101_0101) i 32
+put-linear : (i : ℕ) {f : ℕ → ℕ} → Linear f → Linear (put i f)
+unfolding put
+put-linear i l = shl-linear (mask-linear l 0x0101_0101) i 32
 
 made-linear : Linear made
 unfolding made
 made-linear =
-    xor-linear (xor-linear (xor-linear (xor-linear same-linear (set-linear 4 four-linear)) (set-linear 5 five-linear)) (set-linear 6 six-linear))
-    (set-linear 7 seven-linear)
+    xor-linear (xor-linear (xor-linear (xor-linear same-linear (put-linear 4 four-linear)) (put-linear 5 five-linear)) (put-linear 6 six-linear))
+    (put-linear 7 seven-linear)
 
 returns : tie.Need-returns
-unfolding codeword four five six seven set made
+unfolding codeword four five six seven put made
 returns c d l e =
     ap made e
     ∙ linear-agree (then-linear (mask-linear codeword-linear 0x0F0F_0F0F) made-linear) (low-linear codeword-linear 32) 16
