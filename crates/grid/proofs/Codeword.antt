@@ -12,7 +12,7 @@ use lib.Dec.{T, ltb, ltb→lt, eqb, eqb→eq, lit<}
 use lib.Bits.{bitXor, xor-lt, xor-self}
 use Rattle.words.specs.Word.{bit, sumOver, IsParity}
 use Rattle.words.proofs.Bit.{bit-xor-sum, bit-zero, eq-of-bits}
-use Rattle.words.proofs.Linear.{Linear, combined-linear, by-places}
+use Rattle.words.proofs.Linear.{Linear, combination, by-places}
 use Rattle.words.proofs.Sum.{parity-rule, zero-next}
 use Rattle.words.proofs.Test.{allPairs, at-below, at-pair, same-pairs}
 use Rattle.words.proofs.Xor.{eq-of-xor}
@@ -49,9 +49,12 @@ sum-of-grids d e g h p q = record {
 
 -- ---- the computed grid
 
-pub codeword-linear : Linear codeword
+pub codeword-sum : (a b : ℕ) → codeword (bitXor a b) ≡ bitXor (codeword a) (codeword b)
 unfolding codeword
-codeword-linear = combined-linear gridsOfBits
+codeword-sum = combination gridsOfBits .sum
+
+abbrev pub grids : Linear
+grids = record { at = codeword; sum = codeword-sum }
 
 -- an equation at the grids of one data bit each, in the lines r below n: computed
 module _ (line : ℕ → ℕ → ℕ → ℕ) (n t : ℕ) where
@@ -86,7 +89,7 @@ is-codeword =
     by-places (λ (d : ℕ). Codeword d (codeword d)) (sum 1 1 (grid-of-bit 0 (lit< tt)) (grid-of-bit 0 (lit< tt))) sum 16 grid-of-bit
   where
     sum : (a b : ℕ) → Codeword a (codeword a) → Codeword b (codeword b) → Codeword (bitXor a b) (codeword (bitXor a b))
-    sum a b p q = subst (Codeword (bitXor a b)) (sym (codeword-linear .sum a b)) (sum-of-grids a b (codeword a) (codeword b) p q)
+    sum a b p q = subst (Codeword (bitXor a b)) (sym (codeword-sum a b)) (sum-of-grids a b (codeword a) (codeword b) p q)
 
 -- ---- nothing else meets the equations
 

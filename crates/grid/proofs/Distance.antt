@@ -5,21 +5,22 @@ use mathlib.Core.Logic.{_⊎_, inl, inr}
 use mathlib.Core.List.{List, [], _∷_}
 use Prim.Native.Nat.{ℕ, _^_, _≤_, _<_}
 use lib.Bits.{bitXor}
+use lib.Dec.{eqb}
 use lib.ListN.{getD}
 use lib.Seq.{ext-getD}
 use Rattle.words.specs.Word.{bit, dist, combined}
 use Rattle.words.specs.Fields.{fields, joined}
 use Rattle.words.proofs.Bit.{bit-lt, bit-xor}
 use Rattle.words.proofs.Fields.{fields-below, joined-fields, dist-fields}
-use Rattle.words.proofs.Linear.{Linear, zero-linear, field-linear, combined-linear, combined-differ, then-linear, linear-agree}
-use Rattle.words.proofs.Test.{same-pairs}
+use Rattle.words.proofs.Linear.{Linear, none, then, field, combination, combined-differ, agree}
+use Rattle.words.proofs.Test.{allBelow, at-below}
 use Rattle.codes.specs.Product.{Sides, InProduct, Same, placesApart}
 use Rattle.codes.specs.Address.{ByEntries}
 use Rattle.codes.specs.Promises.{Distance}
 use Rattle.codes.proofs.Address.{distance4}
 use Rattle.codes.proofs.Product.{product-promises}
 use Rattle.grid.specs.Code.{codeword, gridCode}
-use Rattle.grid.proofs.Codeword.{codeword-linear, is-codeword, one-value}
+use Rattle.grid.proofs.Codeword.{grids, is-codeword, one-value}
 
 -- ---- the row code and the column code, by the entries 2 · address + 1 of places 0 to 7
 
@@ -36,28 +37,27 @@ sides = record { side = 8; Row = ByEntries rowEntries; Col = ByEntries colEntrie
 abbrev pub rowOf : ℕ → ℕ → ℕ
 rowOf g r = getD (fields 8 8 g) r 0
 
-row-linear : (r : ℕ) → Linear (λ d. rowOf (codeword d) r)
-row-linear r = then-linear codeword-linear (field-linear 8 8 r)
-
 rows-in : (d : ℕ) → d < 2 ^ 16 → (r : ℕ) → r < 8 → ByEntries rowEntries (bit (rowOf (codeword d) r))
 unfolding codeword
-rows-in d l r h =
-    linear-agree (then-linear (row-linear r) (combined-linear rowEntries)) zero-linear 16
-    (λ k i. same-pairs 16 8 (λ k r. combined rowEntries (bit (rowOf (codeword (2 ^ k)) r))) (λ k r. 0) tt k r i h) d l
+rows-in d l r h = agree (checks r) none 16 (at-below 8 (λ r. allBelow 16 (λ k. eqb (checks r .at (2 ^ k)) 0)) tt r h) d l
+  where
+    checks : ℕ → Linear
+    checks r = then (then grids (field 8 8 r)) (combination rowEntries)
 
-col-linear : (c : ℕ) → Linear (λ d. combined colEntries (λ r. bit (rowOf (codeword d) r) c))
-col-linear c = record {
-  sum = λ a b.
-      combined-differ colEntries (λ r. bit (rowOf (codeword a) r) c) (λ r. bit (rowOf (codeword b) r) c)
-      (λ r. bit (rowOf (codeword (bitXor a b)) r) c) (λ r. bit-lt (rowOf (codeword a) r) c) (λ r. bit-lt (rowOf (codeword b) r) c)
-      (λ r. ap (λ (x : ℕ). bit x c) (row-linear r .sum a b) ∙ bit-xor (rowOf (codeword a) r) (rowOf (codeword b) r) c);
-}
+column-sum : (c a b : ℕ)
+    → combined colEntries (λ r. bit (rowOf (codeword (bitXor a b)) r) c)
+    ≡ bitXor (combined colEntries (λ r. bit (rowOf (codeword a) r) c)) (combined colEntries (λ r. bit (rowOf (codeword b) r) c))
+column-sum c a b =
+    combined-differ colEntries (λ r. bit (rowOf (codeword a) r) c) (λ r. bit (rowOf (codeword b) r) c)
+    (λ r. bit (rowOf (codeword (bitXor a b)) r) c) (λ r. bit-lt (rowOf (codeword a) r) c) (λ r. bit-lt (rowOf (codeword b) r) c)
+    (λ r. ap (λ (x : ℕ). bit x c) (then grids (field 8 8 r) .sum a b) ∙ bit-xor (rowOf (codeword a) r) (rowOf (codeword b) r) c)
 
 cols-in : (d : ℕ) → d < 2 ^ 16 → (c : ℕ) → c < 8 → ByEntries colEntries (λ r. bit (rowOf (codeword d) r) c)
 unfolding codeword
-cols-in d l c h =
-    linear-agree (col-linear c) zero-linear 16
-    (λ k i. same-pairs 16 8 (λ k c. combined colEntries (λ r. bit (rowOf (codeword (2 ^ k)) r) c)) (λ k c. 0) tt k c i h) d l
+cols-in d l c h = agree (checks c) none 16 (at-below 8 (λ c. allBelow 16 (λ k. eqb (checks c .at (2 ^ k)) 0)) tt c h) d l
+  where
+    checks : ℕ → Linear
+    checks c = record { at = λ d. combined colEntries (λ r. bit (rowOf (codeword d) r) c); sum = column-sum c }
 
 pub in-product : (d : ℕ) → d < 2 ^ 16 → InProduct sides (rowOf (codeword d))
 in-product d l = record { fits = λ r h. fields-below 8 8 (codeword d) r; rows = rows-in d l; cols = cols-in d l }

@@ -1,5 +1,6 @@
 -- Linear maps: what they give for a combination of words is the combination of what they give for each. Shifts, masks and exclusive or
--- are linear, so a map made of them is known from its values at single places. Assumes nothing.
+-- are linear; so code that is made of them, written down once more by the maps below, is known from its values at single places.
+-- Assumes nothing.
 use mathlib.Core.Path.{_≡_, refl, sym, ap, ap₂, _∙_, subst}
 use mathlib.Core.Logic.{_⊎_, inl, inr}
 use mathlib.Core.List.{List, [], _∷_}
@@ -7,6 +8,7 @@ use Prim.Native.Nat.{ℕ, zero, suc, _+_, _*_, _/_, _%_, _^_, _<_}
 use native.Mathlib.Nat.{mod-lt, le-refl, zero-mul, one-mul, zero-add}
 use native.Mathlib.Numerals.{one-add}
 use native.Mathlib.Omega.{arith}
+use lib.Dec.{T, eqb}
 use lib.ListN.{getD}
 use lib.Arith.{lt-one}
 use lib.Pow.{pow-pos, shr-lt, split}
@@ -14,54 +16,76 @@ use lib.Bits.{bitXor, bitAnd, differ, xor-self, xor-zero-r, xor-shr, xor-mod, xo
 use Rattle.words.specs.Word.{bit, picked, combined}
 use Rattle.words.specs.Fields.{fields}
 use Rattle.words.proofs.Bit.{by-bit, bit-lt, bit-xor}
+use Rattle.words.proofs.Test.{allBelow, same-below}
 use Rattle.words.proofs.Xor.{xor-swap, xor-shl, xor-mask}
 
-pub record Linear (f : ℕ → ℕ) : Type 0 where
-  pub sum : (a b : ℕ) → f (bitXor a b) ≡ bitXor (f a) (f b)
+infixl 60 _⊕_
+-- a map of words, with the proof that it is linear
+pub record Linear : Type 0 where
+  pub at : ℕ → ℕ
+  pub sum : (a b : ℕ) → at (bitXor a b) ≡ bitXor (at a) (at b)
 
--- ---- what is linear
+-- ---- the maps
 
-pub same-linear : Linear (λ x. x)
-same-linear = record { sum = λ a b. refl }
+abbrev pub same : Linear
+same = record { at = λ x. x; sum = λ a b. refl }
 
-pub zero-linear : Linear (λ x. 0)
-zero-linear = record { sum = λ a b. refl }
+abbrev pub none : Linear
+none = record { at = λ x. 0; sum = λ a b. refl }
 
-module _ {f : ℕ → ℕ} (l : Linear f) where
-  pub shr-linear : (k : ℕ) → Linear (λ x. f x / 2 ^ k)
-  shr-linear k = record { sum = λ a b. ap (λ (x : ℕ). x / 2 ^ k) (l .sum a b) ∙ xor-shr (f a) (f b) k }
+module _ (f : Linear) where
+  pub shr-sum : (k a b : ℕ) → f .at (bitXor a b) / 2 ^ k ≡ bitXor (f .at a / 2 ^ k) (f .at b / 2 ^ k)
+  shr-sum k a b = ap (λ (x : ℕ). x / 2 ^ k) (f .sum a b) ∙ xor-shr (f .at a) (f .at b) k
 
-  pub low-linear : (k : ℕ) → Linear (λ x. f x % 2 ^ k)
-  low-linear k = record { sum = λ a b. ap (λ (x : ℕ). x % 2 ^ k) (l .sum a b) ∙ xor-mod (f a) (f b) k }
+  pub low-sum : (k a b : ℕ) → f .at (bitXor a b) % 2 ^ k ≡ bitXor (f .at a % 2 ^ k) (f .at b % 2 ^ k)
+  low-sum k a b = ap (λ (x : ℕ). x % 2 ^ k) (f .sum a b) ∙ xor-mod (f .at a) (f .at b) k
 
-  -- a shift up in a word of w bits
-  pub shl-linear : (k w : ℕ) → Linear (λ x. f x * 2 ^ k % 2 ^ w)
-  shl-linear k w = record {
-    sum = λ a b.
-        ap (λ (x : ℕ). x * 2 ^ k % 2 ^ w) (l .sum a b) ∙ ap (λ (x : ℕ). x % 2 ^ w) (xor-shl k (f a) (f b))
-        ∙ xor-mod (f a * 2 ^ k) (f b * 2 ^ k) w;
-  }
+  pub shl-sum : (k w a b : ℕ) → f .at (bitXor a b) * 2 ^ k % 2 ^ w ≡ bitXor (f .at a * 2 ^ k % 2 ^ w) (f .at b * 2 ^ k % 2 ^ w)
+  shl-sum k w a b =
+      ap (λ (x : ℕ). x * 2 ^ k % 2 ^ w) (f .sum a b) ∙ ap (λ (x : ℕ). x % 2 ^ w) (xor-shl k (f .at a) (f .at b))
+      ∙ xor-mod (f .at a * 2 ^ k) (f .at b * 2 ^ k) w
 
-  pub mask-linear : (m : ℕ) → Linear (λ x. bitAnd (f x) m)
-  mask-linear m = record { sum = λ a b. ap (λ (x : ℕ). bitAnd x m) (l .sum a b) ∙ xor-mask (f a) (f b) m }
+  pub mask-sum : (m a b : ℕ) → bitAnd (f .at (bitXor a b)) m ≡ bitXor (bitAnd (f .at a) m) (bitAnd (f .at b) m)
+  mask-sum m a b = ap (λ (x : ℕ). bitAnd x m) (f .sum a b) ∙ xor-mask (f .at a) (f .at b) m
 
-  pub xor-linear : {g : ℕ → ℕ} → Linear g → Linear (λ x. bitXor (f x) (g x))
-  xor-linear {g} m = record { sum = λ a b. ap₂ bitXor (l .sum a b) (m .sum a b) ∙ xor-swap (f a) (f b) (g a) (g b) }
+  -- shifted down by k
+  abbrev pub shr : ℕ → Linear
+  shr k = record { at = λ x. f .at x / 2 ^ k; sum = shr-sum k }
+
+  -- shifted up by k, in a word of w bits
+  abbrev pub shl : ℕ → ℕ → Linear
+  shl k w = record { at = λ x. f .at x * 2 ^ k % 2 ^ w; sum = shl-sum k w }
+
+  -- the lowest k bits
+  abbrev pub low : ℕ → Linear
+  low k = record { at = λ x. f .at x % 2 ^ k; sum = low-sum k }
+
+  abbrev pub mask : ℕ → Linear
+  mask m = record { at = λ x. bitAnd (f .at x) m; sum = mask-sum m }
 
   -- f first, then g
-  pub then-linear : {g : ℕ → ℕ} → Linear g → Linear (λ x. g (f x))
-  then-linear {g} m = record { sum = λ a b. ap g (l .sum a b) ∙ m .sum (f a) (f b) }
+  abbrev pub then : Linear → Linear
+  then g = record { at = λ x. g .at (f .at x); sum = λ a b. ap (g .at) (f .sum a b) ∙ g .sum (f .at a) (f .at b) }
 
-  linear-zero : f 0 ≡ 0
-  linear-zero = l .sum 0 0 ∙ xor-self (f 0)
+  at-zero : f .at 0 ≡ 0
+  at-zero = f .sum 0 0 ∙ xor-self (f .at 0)
 
-field-sum : (k n i a b : ℕ) → getD (fields k n (bitXor a b)) i 0 ≡ bitXor (getD (fields k n a) i 0) (getD (fields k n b) i 0)
+pub xor-sum : (f g : Linear) (a b : ℕ)
+    → bitXor (f .at (bitXor a b)) (g .at (bitXor a b)) ≡ bitXor (bitXor (f .at a) (g .at a)) (bitXor (f .at b) (g .at b))
+xor-sum f g a b = ap₂ bitXor (f .sum a b) (g .sum a b) ∙ xor-swap (f .at a) (f .at b) (g .at a) (g .at b)
+
+-- the exclusive or of two
+abbrev pub _⊕_ : Linear → Linear → Linear
+f ⊕ g = record { at = λ x. bitXor (f .at x) (g .at x); sum = xor-sum f g }
+
+pub field-sum : (k n i a b : ℕ) → getD (fields k n (bitXor a b)) i 0 ≡ bitXor (getD (fields k n a) i 0) (getD (fields k n b) i 0)
 field-sum k zero i a b = refl
 field-sum k (suc n) zero a b = xor-mod a b k
 field-sum k (suc n) (suc i) a b = ap (λ (x : ℕ). getD (fields k n x) i 0) (xor-shr a b k) ∙ field-sum k n i (a / 2 ^ k) (b / 2 ^ k)
 
-pub field-linear : (k n i : ℕ) → Linear (λ x. getD (fields k n x) i 0)
-field-linear k n i = record { sum = field-sum k n i }
+-- field i of n fields of k bits
+abbrev pub field : ℕ → ℕ → ℕ → Linear
+field k n i = record { at = λ x. getD (fields k n x) i 0; sum = field-sum k n i }
 
 -- ---- entries of set places
 
@@ -79,8 +103,11 @@ combined-differ (h ∷ hs) f g e p q r =
     (combined-differ hs (λ i. f (suc i)) (λ i. g (suc i)) (λ i. e (suc i)) (λ i. p (suc i)) (λ i. q (suc i)) (λ i. r (suc i)))
     ∙ xor-swap (picked (f 0) h) (picked (g 0) h) (combined hs (λ i. f (suc i))) (combined hs (λ i. g (suc i)))
 
-pub combined-linear : (hs : List ℕ) → Linear (λ x. combined hs (bit x))
-combined-linear hs = record { sum = λ a b. combined-differ hs (bit a) (bit b) (bit (bitXor a b)) (bit-lt a) (bit-lt b) (bit-xor a b) }
+abbrev pub combination : List ℕ → Linear
+combination hs = record {
+  at = λ x. combined hs (bit x);
+  sum = λ a b. combined-differ hs (bit a) (bit b) (bit (bitXor a b)) (bit-lt a) (bit-lt b) (bit-xor a b);
+}
 
 -- ---- known at single places, known everywhere
 
@@ -101,8 +128,8 @@ by-places P z s (suc n) p x h = go (by-places P z s n (λ k l. p k (omega arith)
     go r (inl e) = subst P (sym e) r
     go r (inr e) = subst P (sym e) (s (2 ^ n) (x % 2 ^ n) (p n (le-refl (suc n))) r)
 
--- two linear maps that agree at each place below n agree on all words of n bits
-pub linear-agree : {f g : ℕ → ℕ} → Linear f → Linear g → (n : ℕ) → ((k : ℕ) → k < n → f (2 ^ k) ≡ g (2 ^ k))
-    → (x : ℕ) → x < 2 ^ n → f x ≡ g x
-linear-agree {f} {g} l m n =
-    by-places (λ (x : ℕ). f x ≡ g x) (linear-zero l ∙ sym (linear-zero m)) (λ a b p q. l .sum a b ∙ ap₂ bitXor p q ∙ sym (m .sum a b)) n
+-- two linear maps that agree at each place below n, which is computed, agree on all words of n bits
+pub agree : (f g : Linear) (n : ℕ) → T (allBelow n (λ k. eqb (f .at (2 ^ k)) (g .at (2 ^ k)))) → (x : ℕ) → x < 2 ^ n → f .at x ≡ g .at x
+agree f g n t =
+    by-places (λ (x : ℕ). f .at x ≡ g .at x) (at-zero f ∙ sym (at-zero g)) (λ a b p q. f .sum a b ∙ ap₂ bitXor p q ∙ sym (g .sum a b)) n
+    (same-below n (λ k. f .at (2 ^ k)) (λ k. g .at (2 ^ k)) t)
