@@ -1,5 +1,5 @@
--- Where the distance of a code is over twice its radius, its verdicts keep what specs/Promises.antt says; where it is over that by two, one
--- flip more than the radius is always lost. Assumes nothing.
+-- What specs/Promises.antt says of every code: where the distance is over twice the radius a word is near to one codeword at most, and all
+-- else follows. Assumes nothing.
 use mathlib.Core.Path.{_≡_, refl, sym, ap, _∙_, subst}
 use mathlib.Core.Logic.{_≢_}
 use Prim.Native.Nat.{ℕ, zero, suc, _+_, _*_, _≤_, _<_}
@@ -9,17 +9,17 @@ use lib.Bits.{bitXor}
 use lib.Count.{ones}
 use Rattle.words.proofs.Dist.{dist-sym, dist-triangle, dist-self, dist-flips}
 use Rattle.codes.specs.Verdict.{Code, Verdict, clean, mended, lost, tie, off, Alone, IsVerdict, answered, verdict}
-use Rattle.codes.specs.Promises.{Distance, Hands, Demand3, Promises, OneMoreIsLost}
-use Rattle.codes.proofs.Verdict.{verdict-is, one-verdict}
+use Rattle.codes.specs.Promises.{Distance, Hands, Demand3, Promises, OneMoreIsLost, EveryCode}
+use Rattle.codes.proofs.Verdict.{verdict-is, one-verdict, settled}
 
 hands-answered : (d n : ℕ) → Hands (answered d n) d n
 hands-answered d zero = (refl, refl)
 hands-answered d (suc n) = (refl, refl)
 
 -- what is handed out is a codeword that stands alone within the radius
-handed : (C : Code) (w : ℕ) (v : Verdict) → IsVerdict C w v → (d n : ℕ) → Hands v d n → Alone C w d n × (n ≤ C .radius)
-handed C w (clean e) p d n (q, z) = (subst (λ (x : ℕ). Alone C w x n) q (subst (Alone C w e) (sym z) p), omega arith)
-handed C w (mended e m) (p, l, r) d n (q, z) = (subst (λ (x : ℕ). Alone C w x n) q (subst (Alone C w e) (sym z) p), omega arith)
+handed : (C : Code) (w : ℕ) (v : Verdict) → IsVerdict C w v → (d n : ℕ) → Hands v d n → Alone (off C w) (C .values) d n × (n ≤ C .radius)
+handed C w (clean e) p d n (q, z) = (subst (λ (x : ℕ). Alone (off C w) (C .values) x n) q (subst (Alone (off C w) (C .values) e) (sym z) p), omega arith)
+handed C w (mended e m) (p, l, r) d n (q, z) = (subst (λ (x : ℕ). Alone (off C w) (C .values) x n) q (subst (Alone (off C w) (C .values) e) (sym z) p), omega arith)
 handed C w lost p d n q = absurd q
 handed C w tie p d n q = absurd q
 
@@ -31,25 +31,25 @@ module _ (C : Code) (D : ℕ) (far : Distance C D) where
 
   module _ (wide : 2 * C .radius < D) where
     -- a codeword within the radius is the answer
-    near : (w d : ℕ) → d < C .values → off C w d ≤ C .radius → Alone C w d (off C w d)
-    near w d v r = record { value = v; at = refl; others = λ e u ne. omega (arith, between w d e v u (λ z. ne (sym z))) }
+    near : (w d : ℕ) → d < C .values → off C w d ≤ C .radius → Alone (off C w) (C .values) d (off C w d)
+    near w d v r = record { below = v; at = refl; others = λ e u ne. omega (arith, between w d e v u (λ z. ne (sym z))) }
 
     pub found : (w d : ℕ) → d < C .values → off C w d ≤ C .radius → verdict C w ≡ answered d (off C w d)
     found w d v r = one-verdict C w (verdict C w) (answered d (off C w d)) (verdict-is C w) (go (off C w d) r (near w d v r))
       where
-        go : (n : ℕ) → n ≤ C .radius → Alone C w d n → IsVerdict C w (answered d n)
+        go : (n : ℕ) → n ≤ C .radius → Alone (off C w) (C .values) d n → IsVerdict C w (answered d n)
         go zero l a = a
         go (suc n) l a = (a, omega arith, l)
 
     never-tie : (w : ℕ) → IsVerdict C w tie → ⊥
-    never-tie w (n, l, r, t) = omega (arith, t .at, between w (t .first) (t .second) (t .values .0) (t .values .1) (t .apart))
+    never-tie w (n, l, r, t) = omega (arith, t .at, between w (t .first) (t .second) (t .below .0) (t .below .1) (t .apart))
 
     demand3 : (w : ℕ) → Demand3 C w (verdict C w)
     demand3 w =
-        let out : (d n : ℕ) → Hands (verdict C w) d n → Alone C w d n × (n ≤ C .radius) = handed C w (verdict C w) (verdict-is C w) in
+        let out : (d n : ℕ) → Hands (verdict C w) d n → Alone (off C w) (C .values) d n × (n ≤ C .radius) = handed C w (verdict C w) (verdict-is C w) in
         record {
           given = λ d v r. rw (found w d v r) (hands-answered d (off C w d));
-          within = λ d n h. let (a, r) = out d n h in (a .value, omega (arith, a .at));
+          within = λ d n h. let (a, r) = out d n h in (a .below, omega (arith, a .at));
           others = λ d n h e u ne. let (a, r) = out d n h in omega (arith, a .at, a .others e u ne);
           flips = λ d n h. sym (out d n h .0 .at);
         }
@@ -65,15 +65,16 @@ module _ (C : Code) (D : ℕ) (far : Distance C D) where
         let e : off C (C .encode d) d ≡ 0 = dist-self (C .encode d) in
         found (C .encode d) d v (omega arith) ∙ ap (answered d) e
 
-    pub promises : Promises C
+    promises : Promises C
     promises = record {
+      settled = settled C;
       demand3 = demand3;
       no-tie = λ w e. never-tie w (subst (IsVerdict C w) e (verdict-is C w));
       unharmed = unharmed;
       undone = undone;
     }
 
-  pub one-more-is-lost : 2 * C .radius + 2 ≤ D → OneMoreIsLost C
+  one-more-is-lost : 2 * C .radius + 2 ≤ D → OneMoreIsLost C
   one-more-is-lost wide d p v s =
       one-verdict C w (verdict C w) lost (verdict-is C w)
       (λ n l. let (e, u, t) = l .some in omega (arith, each e u (ℕ-discrete d e)))
@@ -84,3 +85,6 @@ module _ (C : Code) (D : ℕ) (far : Distance C D) where
       each : (e : ℕ) → e < C .values → Dec (d ≡ e) → C .radius < off C w e
       each e u (yes q) = omega (arith, dist-flips (C .encode d) p, ap (off C w) q)
       each e u (no q) = omega (arith, dist-flips (C .encode d) p, between w d e v u q)
+
+pub every-code : (C : Code) → EveryCode C
+every-code C = record { settled = settled C; promises = promises C; one-more-is-lost = one-more-is-lost C }

@@ -1,8 +1,7 @@
--- What a code can promise, in words: demand 3, and what becomes of flips on a written word. proofs/ shows it for every code whose distance
--- is large enough. Assumes nothing.
+-- What a code promises, in words: demand 3, and what becomes of flips on a written word. Assumes nothing.
 use mathlib.Core.Path.{_≡_}
 use mathlib.Core.Logic.{_≢_}
-use Prim.Native.Nat.{ℕ, _+_, _^_, _≤_, _<_}
+use Prim.Native.Nat.{ℕ, _+_, _*_, _^_, _≤_, _<_}
 use lib.Bits.{bitXor}
 use lib.Count.{ones}
 use Rattle.words.specs.Word.{dist}
@@ -12,7 +11,7 @@ use Rattle.codes.specs.Verdict.{Code, Verdict, clean, mended, lost, tie,
 abbrev pub Distance : Code → ℕ → Type 0
 Distance C D = (d e : ℕ) → d < C .values → e < C .values → d ≢ e → D ≤ dist (C .encode d) (C .encode e)
 
--- every word has a verdict, and no word has two
+-- every word has a verdict, that of the function, and no word has two
 pub record Settled (C : Code) (w : ℕ) : Type 0 where
   pub has : IsVerdict C w (verdict C w)
   pub one : (v : Verdict) → IsVerdict C w v → v ≡ verdict C w
@@ -37,6 +36,7 @@ pub record Demand3 (C : Code) (w : ℕ) (v : Verdict) : Type 0 where
 
 -- What is promised of a code for all words, however damaged.
 pub record Promises (C : Code) : Type 0 where
+  pub settled : (w : ℕ) → Settled C w
   pub demand3 : (w : ℕ) → Demand3 C w (verdict C w)
   pub no-tie : (w : ℕ) → verdict C w ≢ tie
   -- what was written and not flipped is clean, with the same data
@@ -47,6 +47,14 @@ pub record Promises (C : Code) : Type 0 where
 -- one flip more than the radius is never taken for another codeword: it is always lost
 abbrev pub OneMoreIsLost : Code → Type 0
 OneMoreIsLost C = (d p : ℕ) → d < C .values → ones p ≡ C .radius + 1 → verdict C (bitXor (C .encode d) p) ≡ lost
+
+-- What is proved of every code (`every-code`).
+pub record EveryCode (C : Code) : Type 0 where
+  pub settled : (w : ℕ) → Settled C w
+  -- where the distance is over twice the radius
+  pub promises : (D : ℕ) → Distance C D → 2 * C .radius < D → Promises C
+  -- where it is over that by two
+  pub one-more-is-lost : (D : ℕ) → Distance C D → 2 * C .radius + 2 ≤ D → OneMoreIsLost C
 
 -- What a code's own constants say of it: its radius, its length in places, and the distance, which two of its codewords have and no two
 -- undercut.

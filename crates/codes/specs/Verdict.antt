@@ -23,36 +23,37 @@ pub data Verdict : Type 0 where
 abbrev pub off : Code → ℕ → ℕ → ℕ
 off C w d = dist w (C .encode d)
 
--- ---- the definition
+-- ---- the definition. Below, the word read differs from the codeword of d in f d places, and the data values are those below k. Codewords
+-- are told apart by their data values: different values have different codewords in every code with a distance over 0.
 
--- n is the least number of places in which w differs from a codeword
-pub record Least (C : Code) (w n : ℕ) : Type 0 where
-  pub some : (d : ℕ) × (d < C .values) × (off C w d ≡ n)
-  pub least : (d : ℕ) → d < C .values → n ≤ off C w d
+-- n is the least number of places in which the word differs from a codeword
+pub record Least (f : ℕ → ℕ) (k n : ℕ) : Type 0 where
+  pub some : (d : ℕ) × (d < k) × (f d ≡ n)
+  pub least : (d : ℕ) → d < k → n ≤ f d
 
 -- two codewords are at n
-pub record Two (C : Code) (w n : ℕ) : Type 0 where
+pub record Two (f : ℕ → ℕ) (k n : ℕ) : Type 0 where
   pub first : ℕ
   pub second : ℕ
   pub apart : first ≢ second
-  pub values : (first < C .values) × (second < C .values)
-  pub at : (off C w first ≡ n) × (off C w second ≡ n)
+  pub below : (first < k) × (second < k)
+  pub at : (f first ≡ n) × (f second ≡ n)
 
 -- the codeword of d is at n, and every other is further off
-pub record Alone (C : Code) (w d n : ℕ) : Type 0 where
-  pub value : d < C .values
-  pub at : off C w d ≡ n
-  pub others : (e : ℕ) → e < C .values → e ≢ d → n < off C w e
+pub record Alone (f : ℕ → ℕ) (k d n : ℕ) : Type 0 where
+  pub below : d < k
+  pub at : f d ≡ n
+  pub others : (e : ℕ) → e < k → e ≢ d → n < f e
 
 -- Let n be the least number of places in which the word read differs from a codeword. If n is over the radius: lost. If two codewords are at
 -- n and n is within the radius: tie. Otherwise the codeword is the answer: clean if n = 0, mended with n flips if not.
 abbrev pub IsVerdict : Code → ℕ → Verdict → Type 0
-IsVerdict C w (clean d) = Alone C w d 0
-IsVerdict C w (mended d n) = Alone C w d n × (0 < n) × (n ≤ C .radius)
-IsVerdict C w lost = (n : ℕ) → Least C w n → C .radius < n
-IsVerdict C w tie = (n : ℕ) × Least C w n × (n ≤ C .radius) × Two C w n
+IsVerdict C w (clean d) = Alone (off C w) (C .values) d 0
+IsVerdict C w (mended d n) = Alone (off C w) (C .values) d n × (0 < n) × (n ≤ C .radius)
+IsVerdict C w lost = (n : ℕ) → Least (off C w) (C .values) n → C .radius < n
+IsVerdict C w tie = (n : ℕ) × Least (off C w) (C .values) n × (n ≤ C .radius) × Two (off C w) (C .values) n
 
--- ---- the same as a function (specs/Promises.antt, `Settled`), for equations: the data values are gone through one by one, and what is
+-- ---- the same as a function (specs/Promises.antt, `settled`), for equations: the data values are gone through one by one, and what is
 -- nearest is kept. It is not there to be computed.
 
 -- nothing seen yet; the codeword of d at n; two or more at n

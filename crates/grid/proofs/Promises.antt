@@ -12,7 +12,7 @@ use Rattle.words.specs.Fields.{fields, joined}
 use Rattle.words.proofs.Fields.{bit-fields, joined-fields, fields-joined, dist-fields}
 use Rattle.words.proofs.Sum.{sum-eq, sum-bits}
 use Rattle.codes.specs.Promises.{States}
-use Rattle.codes.proofs.Promises.{promises, one-more-is-lost}
+use Rattle.codes.proofs.Promises.{every-code}
 use Rattle.grid.specs.Equations.{inRow, dataOf, Codeword}
 use Rattle.grid.specs.Code.{codeword, gridCode}
 use Rattle.grid.specs.Promises.{GridPromises, OneOutcome}
@@ -52,8 +52,8 @@ promised = record {
   one-value = one-value;
   data-places = data-is;
   constants = states refl refl (lit≤ tt) (lit≤ tt);
-  verdicts = promises gridCode 16 distance (lit< tt);
-  eight-are-lost = one-more-is-lost gridCode 16 distance (lit≤ tt);
+  verdicts = every-code gridCode .promises 16 distance (lit< tt);
+  eight-are-lost = every-code gridCode .one-more-is-lost 16 distance (lit≤ tt);
 }
 
 pub one-outcome : OneOutcome
