@@ -102,8 +102,10 @@ int main(int n, char **words)
         uint64_t flip = (uint64_t)1 << (atoi(words[2]) & 63);
         if (strcmp(words[1], "library") == 0)
             flip_library = flip;
-        else
+        else if (strcmp(words[1], "second program") == 0)
             flip_second = flip;
+        else
+            return 1;
         every_grid();
         return 0;
     }

@@ -1,5 +1,6 @@
--- A code by entries that are odd and no two the same has distance 4: an odd number of set places leaves an odd entry, and two leave the
--- difference of two entries. Assumes nothing.
+-- A code by entries: each place carries an entry, and a word is in the code where the entries of its set places combine to 0. An entry is
+-- 2 · address + 1, the address with the overall parity below it. Where entries are odd and no two the same the code has distance 4: an odd
+-- number of set places leaves an odd entry, and two leave the difference of two entries. Assumes nothing.
 use mathlib.Core.Path.{_≡_, refl, sym, ap, ap₂, _∙_, subst}
 use mathlib.Core.Logic.{_≢_, _⊎_, inl, inr}
 use mathlib.Core.Bool.{Bool, true, not}
@@ -17,8 +18,11 @@ use Rattle.words.proofs.Linear.{combined-differ}
 use Rattle.words.proofs.Sum.{sum-zero}
 use Rattle.words.proofs.Test.{both, both-left, both-right, every}
 use Rattle.words.proofs.Xor.{eq-of-xor}
-use Rattle.codes.specs.Address.{ByEntries}
 use Rattle.codes.specs.Product.{Same, Distance4}
+
+-- f i is the bit at place i
+abbrev pub ByEntries : List ℕ → (ℕ → ℕ) → Type 0
+ByEntries hs f = combined hs f ≡ 0
 
 -- ---- the test of a table, which is computed
 

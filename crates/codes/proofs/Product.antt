@@ -10,26 +10,26 @@ use Rattle.words.specs.Word.{bit, dist, sumTo}
 use Rattle.words.proofs.Bit.{bit-lt, differ-self, differ-lt, eq-of-bits}
 use Rattle.words.proofs.Sum.{sum-le}
 use Rattle.words.proofs.Dist.{dist-self, dist-sym, dist-triangle, dist-places, eq-of-dist}
-use Rattle.codes.specs.Product.{Sides, InProduct, Same, differs, placesApart, rowsApart, Distance4, ProductPromises}
+use Rattle.codes.specs.Product.{Sides, InProduct, Same, unlike, placesApart, rowsApart, Distance4, ProductPromises}
 
 -- ---- rows that differ
 
-abbrev Differs : ℕ → ℕ → Type 0
-Differs a b = ((a ≡ b) × (dist a b ≡ 0)) ⊎ (0 < dist a b)
+abbrev Unlike : ℕ → ℕ → Type 0
+Unlike a b = ((a ≡ b) × (dist a b ≡ 0)) ⊎ (0 < dist a b)
 
-differs-cases : (a b : ℕ) → Differs a b
-differs-cases a b = go (eq-zero-or-pos (dist a b))
+unlike-cases : (a b : ℕ) → Unlike a b
+unlike-cases a b = go (eq-zero-or-pos (dist a b))
   where
-    go : (dist a b ≡ 0) ⊎ (0 < dist a b) → Differs a b
+    go : (dist a b ≡ 0) ⊎ (0 < dist a b) → Unlike a b
     go (inl e) = inl (eq-of-dist a b e, e)
     go (inr p) = inr p
 
--- a column differs in no more places than rows do
+-- a column unlike in no more places than rows do
 col-apart : (n c : ℕ) (u v : ℕ → ℕ) → sumTo n (λ r. differ (bit (u r) c) (bit (v r) c)) ≤ rowsApart n u v
 col-apart n c u v =
-    sum-le n (λ r. differ (bit (u r) c) (bit (v r) c)) (λ r. differs (u r) (v r)) (λ r h. go (u r) (v r) (differs-cases (u r) (v r)))
+    sum-le n (λ r. differ (bit (u r) c) (bit (v r) c)) (λ r. unlike (u r) (v r)) (λ r h. go (u r) (v r) (unlike-cases (u r) (v r)))
   where
-    go : (a b : ℕ) → Differs a b → differ (bit a c) (bit b c) ≤ differs a b
+    go : (a b : ℕ) → Unlike a b → differ (bit a c) (bit b c) ≤ unlike a b
     go a b (inl (e, z)) = omega (arith, ap (λ (x : ℕ). differ (bit a c) (bit x c)) (sym e) ∙ differ-self (bit a c))
     go a b (inr p) = omega (arith, differ-lt (bit a c) (bit b c) (bit-lt a c) (bit-lt b c))
 
@@ -40,27 +40,27 @@ by-way (suc n) u w v =
 
 module _ (S : Sides) (row4 : Distance4 (S .side) (S .Row)) (col4 : Distance4 (S .side) (S .Col)) where
   -- two rows of the row code are the same, or differ in at least four places
-  pub row-far : (a b : ℕ) → a < 2 ^ S .side → b < 2 ^ S .side → S .Row (bit a) → S .Row (bit b) → (a ≡ b) ⊎ (4 ≤ dist a b)
-  row-far a b ha hb pa pb = go (row4 (bit a) (bit b) (bit-lt a) (bit-lt b) pa pb)
+  pub row-distance : (a b : ℕ) → a < 2 ^ S .side → b < 2 ^ S .side → S .Row (bit a) → S .Row (bit b) → (a ≡ b) ⊎ (4 ≤ dist a b)
+  row-distance a b ha hb pa pb = go (row4 (bit a) (bit b) (bit-lt a) (bit-lt b) pa pb)
     where
       go : Same (S .side) (bit a) (bit b) ⊎ (4 ≤ sumTo (S .side) (λ i. differ (bit a i) (bit b i))) → (a ≡ b) ⊎ (4 ≤ dist a b)
       go (inl s) = inl (eq-of-bits (S .side) a b ha hb s)
       go (inr f) = inr (omega (arith, dist-places (S .side) a b ha hb))
 
-  -- each row that differs does so in four places
+  -- each row that unlike does so in four places
   rows-weight : (n : ℕ) (u v : ℕ → ℕ) → ((r : ℕ) → r < n → (u r ≡ v r) ⊎ (4 ≤ dist (u r) (v r)))
       → 4 * rowsApart n u v ≤ placesApart n u v
   rows-weight zero u v h = omega arith
   rows-weight (suc n) u v h =
       omega (arith, one (u 0) (v 0) (h 0 (zero-lt-suc n)), rows-weight n (λ r. u (suc r)) (λ r. v (suc r)) (λ r l. h (suc r) (suc-le-suc l)))
     where
-      one : (a b : ℕ) → (a ≡ b) ⊎ (4 ≤ dist a b) → 4 * differs a b ≤ dist a b
+      one : (a b : ℕ) → (a ≡ b) ⊎ (4 ≤ dist a b) → 4 * unlike a b ≤ dist a b
       one a b (inl e) = omega (arith, ap (dist a) (sym e) ∙ dist-self a)
       one a b (inr f) = omega arith
 
-  -- words that differ at all differ in four rows: some column differs, and so in four places
-  pub rows-far : (u v : ℕ → ℕ) → InProduct S u → InProduct S v → Same (S .side) u v ⊎ (4 ≤ rowsApart (S .side) u v)
-  rows-far u v hu hv = go (decLe 4 (rowsApart (S .side) u v))
+  -- words that differ at all differ in four rows: some column unlike, and so in four places
+  pub rows-distance : (u v : ℕ → ℕ) → InProduct S u → InProduct S v → Same (S .side) u v ⊎ (4 ≤ rowsApart (S .side) u v)
+  rows-distance u v hu hv = go (decLe 4 (rowsApart (S .side) u v))
     where
       column : rowsApart (S .side) u v < 4 → (c : ℕ) → c < S .side → Same (S .side) (λ r. bit (u r) c) (λ r. bit (v r) c)
       column l c h = each (col4 (λ r. bit (u r) c) (λ r. bit (v r) c) (λ r. bit-lt (u r) c) (λ r. bit-lt (v r) c) (hu .cols c h) (hv .cols c h))
@@ -76,7 +76,7 @@ module _ (S : Sides) (row4 : Distance4 (S .side) (S .Row)) (col4 : Distance4 (S 
 
   -- the distance of the product, from the two
   distance : (u v : ℕ → ℕ) → InProduct S u → InProduct S v → Same (S .side) u v ⊎ (16 ≤ placesApart (S .side) u v)
-  distance u v hu hv = go (rows-far u v hu hv)
+  distance u v hu hv = go (rows-distance u v hu hv)
     where
       go : Same (S .side) u v ⊎ (4 ≤ rowsApart (S .side) u v) → Same (S .side) u v ⊎ (16 ≤ placesApart (S .side) u v)
       go (inl s) = inl s
@@ -84,7 +84,7 @@ module _ (S : Sides) (row4 : Distance4 (S .side) (S .Row)) (col4 : Distance4 (S 
           inr (omega (
             arith,
             rows-weight (S .side) u v
-                (λ r h. row-far (u r) (v r) (hu .fits r h) (hv .fits r h) (hu .rows r h) (hv .rows r h)),
+                (λ r h. row-distance (u r) (v r) (hu .fits r h) (hv .fits r h) (hu .rows r h) (hv .rows r h)),
           ))
 
   one-within-7 : (read u v : ℕ → ℕ) → InProduct S u → InProduct S v → placesApart (S .side) read u ≤ 7 → placesApart (S .side) read v ≤ 7

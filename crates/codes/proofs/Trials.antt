@@ -1,4 +1,4 @@
--- Two trials are enough. Row by row, what both trials together pay, (2w + s) + (2w' + s'), is at most the places in which the row differs
+-- Two trials are enough. Row by row, what both trials together pay, (2w + s) + (2w' + s'), is at most the places in which the row unlike
 -- from the codeword's; seven cannot pay for 4 + 4. So a codeword within 7 is the candidate of one of them, and a trial has at most one
 -- candidate. Assumes nothing.
 use mathlib.Core.Path.{_≡_, refl, ap, _∙_}
@@ -12,8 +12,8 @@ use lib.Dec.{leb}
 use borrow.Author.Tests.{leb-true, leb-false}
 use Rattle.words.specs.Word.{choose, bit, dist, sumTo}
 use Rattle.words.proofs.Dist.{dist-self, dist-sym, dist-triangle}
-use Rattle.codes.specs.Product.{Sides, InProduct, Same, differs, placesApart, rowsApart, Distance4, Repair, aside, wrong, Candidate, TrialPromises}
-use Rattle.codes.proofs.Product.{row-far, rows-far}
+use Rattle.codes.specs.Product.{Sides, InProduct, Same, unlike, placesApart, rowsApart, Distance4, Repair, aside, wrong, pays, Candidate, TrialPromises, EveryProduct}
+use Rattle.codes.proofs.Product.{row-distance, rows-distance, product-promises}
 
 -- ---- a row in a trial: set aside, or not
 
@@ -21,24 +21,25 @@ module _ (fix : ℕ → ℕ) where
   abbrev Trial : ℕ → ℕ → ℕ → Type 0
   Trial t x c =
       ((t ≤ dist x (fix x)) × (aside fix t x ≡ 1) × (wrong fix t x c ≡ 0))
-      ⊎ ((dist x (fix x) < t) × (aside fix t x ≡ 0) × (wrong fix t x c ≡ differs c (fix x)))
+      ⊎ ((dist x (fix x) < t) × (aside fix t x ≡ 0) × (wrong fix t x c ≡ unlike c (fix x)))
 
   trial-cases : (t x c : ℕ) → Trial t x c
   unfolding aside wrong
   trial-cases t x c = go (leb t (dist x (fix x))) refl
     where
       go : (b : Bool) → leb t (dist x (fix x)) ≡ b → Trial t x c
-      go true e = inl (leb-true t (dist x (fix x)) e, ap (λ (b : Bool). choose b 1 0) e, ap (λ (b : Bool). choose b 0 (differs c (fix x))) e)
-      go false e = inr (leb-false t (dist x (fix x)) e, ap (λ (b : Bool). choose b 1 0) e, ap (λ (b : Bool). choose b 0 (differs c (fix x))) e)
+      go true e = inl (leb-true t (dist x (fix x)) e, ap (λ (b : Bool). choose b 1 0) e, ap (λ (b : Bool). choose b 0 (unlike c (fix x))) e)
+      go false e = inr (leb-false t (dist x (fix x)) e, ap (λ (b : Bool). choose b 1 0) e, ap (λ (b : Bool). choose b 0 (unlike c (fix x))) e)
 
+  -- what trial t pays for one row
   abbrev cost : ℕ → ℕ → ℕ → ℕ
   cost t x c = 2 * wrong fix t x c + aside fix t x
 
   -- two rows that a trial allows for x differ only where it pays for one of them
-  row-pair : (t x u v : ℕ) → differs u v ≤ wrong fix t x u + wrong fix t x v + aside fix t x
+  row-pair : (t x u v : ℕ) → unlike u v ≤ wrong fix t x u + wrong fix t x v + aside fix t x
   row-pair t x u v = go (trial-cases t x u) (trial-cases t x v)
     where
-      go : Trial t x u → Trial t x v → differs u v ≤ wrong fix t x u + wrong fix t x v + aside fix t x
+      go : Trial t x u → Trial t x v → unlike u v ≤ wrong fix t x u + wrong fix t x v + aside fix t x
       go (inl p) q = omega arith
       go (inr p) (inl q) = omega arith
       go (inr p) (inr q) = omega (arith, dist-triangle u (fix x) v, dist-sym v (fix x))
@@ -51,7 +52,7 @@ module _ (fix : ℕ → ℕ) where
 
 module _ (S : Sides) (row4 : Distance4 (S .side) (S .Row)) (col4 : Distance4 (S .side) (S .Col)) (fix : ℕ → ℕ) where
   one-candidate : (t : ℕ) (x u v : ℕ → ℕ) → Candidate S fix t x u → Candidate S fix t x v → Same (S .side) u v
-  one-candidate t x u v hu hv = go (rows-far S row4 col4 u v (hu .code) (hv .code))
+  one-candidate t x u v hu hv = go (rows-distance S row4 col4 u v (hu .code) (hv .code))
     where
       go : Same (S .side) u v ⊎ (4 ≤ rowsApart (S .side) u v) → Same (S .side) u v
       go (inl s) = s
@@ -60,7 +61,7 @@ module _ (S : Sides) (row4 : Distance4 (S .side) (S .Row)) (col4 : Distance4 (S 
   module _ (R : Repair S fix) where
     -- what a row costs both trials together
     row-cost : (x c : ℕ) → x < 2 ^ S .side → c < 2 ^ S .side → S .Row (bit c) → cost fix 2 x c + cost fix 1 x c ≤ dist x c
-    row-cost x c hx hc pc = go (row-far S row4 col4 c (fix x) hc (R .fits x hx) pc (R .row x hx)) (trial-cases fix 2 x c) (trial-cases fix 1 x c)
+    row-cost x c hx hc pc = go (row-distance S row4 col4 c (fix x) hc (R .fits x hx) pc (R .row x hx)) (trial-cases fix 2 x c) (trial-cases fix 1 x c)
       where
         same : c ≡ fix x → (dist x c ≡ dist x (fix x)) × (dist c (fix x) ≡ 0)
         same e = (ap (dist x) e, ap (λ (y : ℕ). dist y (fix x)) e ∙ dist-self (fix x))
@@ -79,24 +80,23 @@ module _ (S : Sides) (row4 : Distance4 (S .side) (S .Row)) (col4 : Distance4 (S 
         go (inr f) (inr p) (inr q) = omega (arith, R .near x hx, far f)
 
     costs : (n : ℕ) (x c : ℕ → ℕ) → ((r : ℕ) → r < n → cost fix 2 (x r) (c r) + cost fix 1 (x r) (c r) ≤ dist (x r) (c r))
-        → (2 * sumTo n (λ r. wrong fix 2 (x r) (c r)) + sumTo n (λ r. aside fix 2 (x r)))
-        + (2 * sumTo n (λ r. wrong fix 1 (x r) (c r)) + sumTo n (λ r. aside fix 1 (x r))) ≤ placesApart n x c
+        → pays fix n 2 x c + pays fix n 1 x c ≤ placesApart n x c
     costs zero x c h = omega arith
     costs (suc n) x c h = omega (arith, h 0 (zero-lt-suc n), costs n (λ r. x (suc r)) (λ r. c (suc r)) (λ r l. h (suc r) (suc-le-suc l)))
 
     two-trials : (x c : ℕ → ℕ) → ((r : ℕ) → r < S .side → x r < 2 ^ S .side) → InProduct S c → placesApart (S .side) x c ≤ 7
         → Candidate S fix 2 x c ⊎ Candidate S fix 1 x c
-    two-trials x c hx hc d =
-        go (decLe (2 * sumTo (S .side) (λ r. wrong fix 2 (x r) (c r)) + sumTo (S .side) (λ r. aside fix 2 (x r))) 3)
+    two-trials x c hx hc d = go (decLe (pays fix (S .side) 2 x c) 3)
       where
-        all : (2 * sumTo (S .side) (λ r. wrong fix 2 (x r) (c r)) + sumTo (S .side) (λ r. aside fix 2 (x r)))
-            + (2 * sumTo (S .side) (λ r. wrong fix 1 (x r) (c r)) + sumTo (S .side) (λ r. aside fix 1 (x r))) ≤ placesApart (S .side) x c
+        all : pays fix (S .side) 2 x c + pays fix (S .side) 1 x c ≤ placesApart (S .side) x c
         all = costs (S .side) x c (λ r h. row-cost (x r) (c r) (hx r h) (hc .fits r h) (hc .rows r h))
 
-        go : Dec (2 * sumTo (S .side) (λ r. wrong fix 2 (x r) (c r)) + sumTo (S .side) (λ r. aside fix 2 (x r)) ≤ 3)
-            → Candidate S fix 2 x c ⊎ Candidate S fix 1 x c
+        go : Dec (pays fix (S .side) 2 x c ≤ 3) → Candidate S fix 2 x c ⊎ Candidate S fix 1 x c
         go (yes h) = inl (record { code = hc; few = h })
         go (no h) = inr (record { code = hc; few = omega (arith, all) })
 
-    pub trial-promises : TrialPromises S fix
+    trial-promises : TrialPromises S fix
     trial-promises = record { one-candidate = one-candidate; two-trials = two-trials }
+
+pub every-product : (S : Sides) → EveryProduct S
+every-product S = record { product = product-promises S; trials = trial-promises S }

@@ -1,4 +1,3 @@
 pub mod Verdict
 pub mod Promises
 pub mod Product
-pub mod Address

@@ -16,7 +16,7 @@ use Rattle.words.proofs.Linear.{Linear, combination, by-places}
 use Rattle.words.proofs.Sum.{parity-rule, zero-next}
 use Rattle.words.proofs.Test.{allPairs, at-below, at-pair, same-pairs}
 use Rattle.words.proofs.Xor.{eq-of-xor}
-use Rattle.grid.specs.Equations.{inRow, inColumn, Codeword}
+use Rattle.grid.specs.Equations.{inRow, inColumn, dataBit, Codeword}
 use Rattle.grid.specs.Code.{gridsOfBits, codeword}
 
 -- ---- sums of grids are grids
@@ -30,12 +30,10 @@ module _ (g h : ℕ) where
       → IsParity (inColumn (bitXor g h) c) t is
   in-column c p q = parity-rule p q (inColumn (bitXor g h) c) (λ r. bit-xor-sum g h (8 * r + c))
 
-pub sum-of-grids : (d e g h : ℕ) → Codeword d g → Codeword e h → Codeword (bitXor d e) (bitXor g h)
+sum-of-grids : (d e g h : ℕ) → Codeword d g → Codeword e h → Codeword (bitXor d e) (bitXor g h)
 sum-of-grids d e g h p q = record {
   fits = xor-lt 64 g h (p .fits) (q .fits);
-  data-places = λ k l.
-      bit-xor-sum g h (8 * (k / 4) + k % 4) ∙ ap₂ (λ (x y : ℕ). (x + y) % 2) (p .data-places k l) (q .data-places k l)
-      ∙ sym (bit-xor-sum d e k);
+  data-places = λ k l. rw (bit-xor-sum g h, bit-xor-sum d e, p .data-places k l, q .data-places k l);
   place4 = λ r l. in-row g h r (p .place4 r l) (q .place4 r l);
   place5 = λ r l. in-row g h r (p .place5 r l) (q .place5 r l);
   place6 = λ r l. in-row g h r (p .place6 r l) (q .place6 r l);
@@ -72,7 +70,7 @@ grid-of-bit : (k : ℕ) → k < 16 → Codeword (2 ^ k) (codeword (2 ^ k))
 unfolding codeword holds?
 grid-of-bit k l = record {
   fits = ltb→lt (codeword (2 ^ k)) (2 ^ 64) (at-below 16 (λ k. ltb (codeword (2 ^ k)) (2 ^ 64)) tt k l);
-  data-places = λ i h. same-pairs 16 16 (λ k i. inRow (codeword (2 ^ k)) (i / 4) (i % 4)) (λ k i. bit (2 ^ k) i) tt k i l h;
+  data-places = λ i h. same-pairs 16 16 (λ k i. dataBit (codeword (2 ^ k)) i) (λ k i. bit (2 ^ k) i) tt k i l h;
   place4 = tested inRow 4 4 tt k l;
   place5 = tested inRow 4 5 tt k l;
   place6 = tested inRow 4 6 tt k l;

@@ -15,10 +15,9 @@ use Rattle.words.proofs.Fields.{fields-below, joined-fields, dist-fields}
 use Rattle.words.proofs.Linear.{Linear, none, then, field, combination, combined-differ, agree}
 use Rattle.words.proofs.Test.{allBelow, at-below}
 use Rattle.codes.specs.Product.{Sides, InProduct, Same, placesApart}
-use Rattle.codes.specs.Address.{ByEntries}
 use Rattle.codes.specs.Promises.{Distance}
-use Rattle.codes.proofs.Address.{distance4}
-use Rattle.codes.proofs.Product.{product-promises}
+use Rattle.codes.proofs.Address.{ByEntries, distance4}
+use Rattle.codes.proofs.Trials.{every-product}
 use Rattle.grid.specs.Code.{codeword, gridCode}
 use Rattle.grid.proofs.Codeword.{grids, is-codeword, one-value}
 
@@ -76,7 +75,7 @@ same-word g h p q s =
 
 pub distance : Distance gridCode 16
 distance d e hd he ne =
-    go (product-promises sides (distance4 rowEntries tt) (distance4 colEntries tt) .distance (rowOf (codeword d)) (rowOf (codeword e))
+    go (every-product sides .product (distance4 rowEntries tt) (distance4 colEntries tt) .distance (rowOf (codeword d)) (rowOf (codeword e))
     (in-product d hd) (in-product e he))
   where
     go : Same 8 (rowOf (codeword d)) (rowOf (codeword e)) ⊎ (16 ≤ placesApart 8 (rowOf (codeword d)) (rowOf (codeword e)))

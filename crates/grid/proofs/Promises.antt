@@ -1,7 +1,7 @@
 -- What specs/Promises.antt says of the grid holds. Assumes nothing.
 use mathlib.Core.Path.{_≡_, refl, sym, ap, _∙_}
 use mathlib.Core.List.{List}
-use Prim.Native.Nat.{ℕ, _*_, _/_, _%_, _^_, _≤_, _<_}
+use Prim.Native.Nat.{ℕ, _*_, _^_, _≤_, _<_}
 use native.Mathlib.Nat.{le-trans, le-antisymm}
 use native.Mathlib.Omega.{arith}
 use lib.Count.{ones}
@@ -13,7 +13,7 @@ use Rattle.words.proofs.Fields.{bit-fields, joined-fields, fields-joined, dist-
 use Rattle.words.proofs.Sum.{sum-eq, sum-bits}
 use Rattle.codes.specs.Promises.{States}
 use Rattle.codes.proofs.Promises.{every-code}
-use Rattle.grid.specs.Equations.{inRow, dataOf, Codeword}
+use Rattle.grid.specs.Equations.{dataBit, dataOf, Codeword}
 use Rattle.grid.specs.Code.{codeword, gridCode}
 use Rattle.grid.specs.Promises.{GridPromises, OneOutcome}
 use Rattle.grid.proofs.Codeword.{is-codeword, one-solution, one-value}
@@ -21,7 +21,7 @@ use Rattle.grid.proofs.Distance.{codeword-lt, distance}
 
 data-is : (d g : ℕ) → d < 2 ^ 16 → Codeword d g → dataOf g ≡ d
 data-is d g h p =
-    sum-eq 16 (λ k. inRow g (k / 4) (k % 4) * 2 ^ k) (λ k. bit d k * 2 ^ k) (λ k l. ap (λ (x : ℕ). x * 2 ^ k) (p .data-places k l))
+    sum-eq 16 (λ k. dataBit g k * 2 ^ k) (λ k. bit d k * 2 ^ k) (λ k l. ap (λ (x : ℕ). x * 2 ^ k) (p .data-places k l))
     ∙ sum-bits 16 d h
 
 whole : (rows : List ℕ) → length rows ≡ 8 → ((r : ℕ) → getD rows r 0 < 2 ^ 8) → fields 8 8 (joined 8 rows) ≡ rows

@@ -1,4 +1,4 @@
--- The worked numbers of document 01 that are marked P: one list, one claim (`cases-hold`). Assumes nothing.
+-- The worked numbers of document 01 on encoding: one list, one claim (`cases-hold`). Assumes nothing.
 use mathlib.Core.List.{List, [], _∷_}
 use Prim.Native.Nat.{ℕ}
 use Rattle.grid.specs.Equations.{Codeword}

@@ -12,15 +12,19 @@ inRow g r c = bit g (8 * r + c)
 abbrev pub inColumn : ℕ → ℕ → ℕ → ℕ
 inColumn g c r = inRow g r c
 
--- the data that stands in a grid: data bit k is at row k/4, place k mod 4
+-- Data bit k (0 to 15) stands at row k/4, place k mod 4.
+abbrev pub dataBit : ℕ → ℕ → ℕ
+dataBit g k = inRow g (k / 4) (k % 4)
+
+-- the data that stands in a grid
 abbrev pub dataOf : ℕ → ℕ
-dataOf g = sumTo 16 (λ k. inRow g (k / 4) (k % 4) * 2 ^ k)
+dataOf g = sumTo 16 (λ k. dataBit g k * 2 ^ k)
 
 -- g is the grid of the data d.
 pub record Codeword (d g : ℕ) : Type 0 where
   pub fits : g < 2 ^ 64
-  -- Data bit k (0 to 15) stands at row k/4, place k mod 4.
-  pub data-places : (k : ℕ) → k < 16 → inRow g (k / 4) (k % 4) ≡ bit d k
+  -- The data stands in the data places.
+  pub data-places : (k : ℕ) → k < 16 → dataBit g k ≡ bit d k
   -- Each of rows 0 to 3: place 4 is the parity of places 0, 1, 2; place 5 of places 0, 2, 3; place 6 of places 1, 2, 3.
   pub place4 : (r : ℕ) → r < 4 → IsParity (inRow g r) 4 (0 ∷ 1 ∷ 2 ∷ [])
   pub place5 : (r : ℕ) → r < 4 → IsParity (inRow g r) 5 (0 ∷ 2 ∷ 3 ∷ [])

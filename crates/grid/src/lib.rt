@@ -11,8 +11,8 @@
 //     row 7   q q q q   q q q   q
 //
 // Each row and each column is a word of a code in which two words differ in at least four places. So
-// two grids that differ at all do so in four rows, in four places each: 16 places, and up to seven
-// flips leave a grid nearer to what was written than to anything else.
+// the grids of two data values differ in four rows, in four places each: 16 places, and up to seven
+// flips leave a grid nearer to what was written than to the grid of any other value.
 //
 // specs/Equations.antt has the parities, specs/Calls.antt what each call promises, and
 // specs/Promises.antt what is proved of the code. As a number a grid has row r in byte r, lowest
@@ -89,7 +89,7 @@ impl Grid {
 
     pub const DISTANCE: u32 = 16;
 
-    // The grid of a data value. The constants are what they say they are, for every value.
+    // The grid of a data value. RADIUS, LENGTH and DISTANCE are the code's own.
     pub fn encode(value: u16) -> Grid
         ensures { λ r. ⌜ Encoded value (r .rows) ⌝ }
         ensures constants { λ r. do ⌜ States gridCode (← ⟦Grid::RADIUS⟧ .entry) (← ⟦Grid::LENGTH⟧ .entry) (← ⟦Grid::DISTANCE⟧ .entry) ⌝ }

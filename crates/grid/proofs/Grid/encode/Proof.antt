@@ -14,9 +14,9 @@ use borrow.Author.Needs.{needs}
 use Rattle.grid.proofs.Grid.encode.Statement.{statement}
 use Rattle.grid.proofs.Grid.encode.Tie as tie
 
-encoded : (d high low : ℕ) (rows : List ℕ) → d < 2 ^ 16 → high ≡ codeword d % 2 ^ 32 → low ≡ codeword d / 2 ^ 32
-    → rows ≡ fields 8 8 (bitOr (low * 2 ^ 32 % 2 ^ 64) high) → Encoded d rows
-encoded d high low rows h p q e =
+encoded : (d upper lower : ℕ) (rows : List ℕ) → d < 2 ^ 16 → upper ≡ codeword d % 2 ^ 32 → lower ≡ codeword d / 2 ^ 32
+    → rows ≡ fields 8 8 (bitOr (lower * 2 ^ 32 % 2 ^ 64) upper) → Encoded d rows
+encoded d upper lower rows h p q e =
     let fits : codeword d < 2 ^ 64 = is-codeword d h .fits in
     let are : rows ≡ fields 8 8 (codeword d) =
     e ∙ ap₂ {C = List ℕ} (λ (l u : ℕ). fields 8 8 (bitOr (l * 2 ^ 32 % 2 ^ 64) u)) q p
@@ -30,10 +30,10 @@ returns : tie.Need-returns
 returns c =
     let d : ℕ = c .before .before .before .before .args .value in
     let l : d < 2 ^ 16 = search needs in
-    let high : c .before .before .upper .result ≡ codeword d % 2 ^ 32 =
+    let upper : c .before .before .upper .result ≡ codeword d % 2 ^ 32 =
     c .before .before .upper .ensures d l (c .before .before .before .data-places .ensures) in (
-      encoded d (c .before .before .upper .result) (c .before .lower .result) (c .of-number .result .rows) l high
-          (c .before .lower .ensures d l high) (c .of-number .ensures .answer),
+      encoded d (c .before .before .upper .result) (c .before .lower .result) (c .of-number .result .rows) l upper
+          (c .before .lower .ensures d l upper) (c .of-number .ensures .answer),
       promised .constants,
     )
 
