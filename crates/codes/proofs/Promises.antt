@@ -8,20 +8,24 @@ use native.Mathlib.Omega.{arith}
 use lib.Bits.{bitXor}
 use lib.Count.{ones}
 use Rattle.words.proofs.Dist.{dist-sym, dist-triangle, dist-self, dist-flips}
-use Rattle.codes.specs.Verdict.{Code, Verdict, clean, mended, lost, tie, off, Alone, IsVerdict, answered, verdict}
+use Rattle.codes.specs.Verdict.{Code, Verdict, clean, mended, lost, tie, off, IsVerdict, answered, verdict}
 use Rattle.codes.specs.Promises.{Distance, Hands, Demand3, Promises, OneMoreIsLost, EveryCode}
-use Rattle.codes.proofs.Verdict.{verdict-is, one-verdict, settled}
+use Rattle.codes.proofs.Verdict.{Answer, answered-is, verdict-is, one-verdict, settled}
 
 hands-answered : (d n : ℕ) → Hands (answered d n) d n
 hands-answered d zero = (refl, refl)
 hands-answered d (suc n) = (refl, refl)
 
 -- what is handed out is a codeword that stands alone within the radius
-handed : (C : Code) (w : ℕ) (v : Verdict) → IsVerdict C w v → (d n : ℕ) → Hands v d n → Alone (off C w) (C .values) d n × (n ≤ C .radius)
-handed C w (clean e) p d n (q, z) = (subst (λ (x : ℕ). Alone (off C w) (C .values) x n) q (subst (Alone (off C w) (C .values) e) (sym z) p), omega arith)
-handed C w (mended e m) (p, l, r) d n (q, z) = (subst (λ (x : ℕ). Alone (off C w) (C .values) x n) q (subst (Alone (off C w) (C .values) e) (sym z) p), omega arith)
+handed : (C : Code) (w : ℕ) (v : Verdict) → IsVerdict C w v → (d n : ℕ) → Hands v d n → Answer C w d n × (n ≤ C .radius)
+handed C w (clean e) p d n (q, z) = (subst (λ (x : ℕ). Answer C w x n) q (subst (Answer C w e) (sym z) p), omega arith)
+handed C w (mended e m) (p, l, r) d n (q, z) = (subst (λ (x : ℕ). Answer C w x n) q (subst (Answer C w e) (sym z) p), omega arith)
 handed C w lost p d n q = absurd q
 handed C w tie p d n q = absurd q
+
+-- where every codeword is over the radius the word is lost
+pub none-near : (C : Code) (w : ℕ) → ((d : ℕ) → d < C .values → C .radius < off C w d) → verdict C w ≡ lost
+none-near C w h = one-verdict C w (verdict C w) lost (verdict-is C w) (λ n l. let (d, v, s) = l .some in omega (arith, h d v))
 
 module _ (C : Code) (D : ℕ) (far : Distance C D) where
   -- a word is not near to two codewords
@@ -31,22 +35,19 @@ module _ (C : Code) (D : ℕ) (far : Distance C D) where
 
   module _ (wide : 2 * C .radius < D) where
     -- a codeword within the radius is the answer
-    near : (w d : ℕ) → d < C .values → off C w d ≤ C .radius → Alone (off C w) (C .values) d (off C w d)
+    near : (w d : ℕ) → d < C .values → off C w d ≤ C .radius → Answer C w d (off C w d)
     near w d v r = record { below = v; at = refl; others = λ e u ne. omega (arith, between w d e v u (λ z. ne (sym z))) }
 
     pub found : (w d : ℕ) → d < C .values → off C w d ≤ C .radius → verdict C w ≡ answered d (off C w d)
-    found w d v r = one-verdict C w (verdict C w) (answered d (off C w d)) (verdict-is C w) (go (off C w d) r (near w d v r))
-      where
-        go : (n : ℕ) → n ≤ C .radius → Alone (off C w) (C .values) d n → IsVerdict C w (answered d n)
-        go zero l a = a
-        go (suc n) l a = (a, omega arith, l)
+    found w d v r =
+        one-verdict C w (verdict C w) (answered d (off C w d)) (verdict-is C w) (answered-is C w d (off C w d) r (near w d v r))
 
     never-tie : (w : ℕ) → IsVerdict C w tie → ⊥
     never-tie w (n, l, r, t) = omega (arith, t .at, between w (t .first) (t .second) (t .below .0) (t .below .1) (t .apart))
 
     demand3 : (w : ℕ) → Demand3 C w (verdict C w)
     demand3 w =
-        let out : (d n : ℕ) → Hands (verdict C w) d n → Alone (off C w) (C .values) d n × (n ≤ C .radius) = handed C w (verdict C w) (verdict-is C w) in
+        let out : (d n : ℕ) → Hands (verdict C w) d n → Answer C w d n × (n ≤ C .radius) = handed C w (verdict C w) (verdict-is C w) in
         record {
           given = λ d v r. rw (found w d v r) (hands-answered d (off C w d));
           within = λ d n h. let (a, r) = out d n h in (a .below, omega (arith, a .at));
@@ -75,9 +76,7 @@ module _ (C : Code) (D : ℕ) (far : Distance C D) where
     }
 
   one-more-is-lost : 2 * C .radius + 2 ≤ D → OneMoreIsLost C
-  one-more-is-lost wide d p v s =
-      one-verdict C w (verdict C w) lost (verdict-is C w)
-      (λ n l. let (e, u, t) = l .some in omega (arith, each e u (ℕ-discrete d e)))
+  one-more-is-lost wide d p v s = none-near C w (λ e u. each e u (ℕ-discrete d e))
     where
       w : ℕ
       w = bitXor (C .encode d) p

@@ -94,7 +94,15 @@ kept f (suc k) = step f k (nearest f k) (kept f k)
 
 -- ---- the function meets the definition
 
+-- the codeword of d is at n, and every other is further off
+abbrev pub Answer : Code → ℕ → ℕ → ℕ → Type 0
+Answer C w d n = Alone (off C w) (C .values) d n
+
 module _ (C : Code) (w : ℕ) where
+  pub answered-is : (d n : ℕ) → n ≤ C .radius → Answer C w d n → IsVerdict C w (answered d n)
+  answered-is d zero r a = a
+  answered-is d (suc n) r a = (a, omega arith, r)
+
   -- the least number of places is over the radius
   over : (n : ℕ) → Least (off C w) (C .values) n → C .radius < n → IsVerdict C w lost
   over n m l k q = let (d, h, e) = q .some in omega (arith, m .least d h)
@@ -103,12 +111,8 @@ module _ (C : Code) (w : ℕ) where
   judged-is none z = λ m q. let (d, h, e) = q .some in absurd (omega arith)
   judged-is (one d n) a = go (leb n (C .radius)) refl
     where
-      within : (m : ℕ) → m ≤ C .radius → Alone (off C w) (C .values) d m → IsVerdict C w (answered d m)
-      within zero r a = a
-      within (suc m) r a = (a, omega arith, r)
-
       go : (x : Bool) → leb n (C .radius) ≡ x → IsVerdict C w (choose x (answered d n) lost)
-      go true p = within n (leb-true n (C .radius) p) a
+      go true p = answered-is d n (leb-true n (C .radius) p) a
       go false p = over n (alone-least (off C w) (C .values) d n a) (leb-false n (C .radius) p)
   judged-is (several n) (m, t) = go (leb n (C .radius)) refl
     where
@@ -153,10 +157,10 @@ module _ (C : Code) (w : ℕ) where
   abbrev k : ℕ
   k = C .values
 
-  alone-over : (d n : ℕ) → Alone f k d n → IsVerdict C w lost → C .radius < n
+  alone-over : (d n : ℕ) → Answer C w d n → IsVerdict C w lost → C .radius < n
   alone-over d n p q = q n (alone-least f k d n p)
 
-  alone-tie : (d n : ℕ) → Alone f k d n → IsVerdict C w tie → ⊥
+  alone-tie : (d n : ℕ) → Answer C w d n → IsVerdict C w tie → ⊥
   alone-tie d n p (m, l, r, t) = alone-two f k d n p (subst (Two f k) (one-least f k m n l (alone-least f k d n p)) t)
 
   lost-tie : IsVerdict C w lost → IsVerdict C w tie → ⊥
