@@ -13,7 +13,7 @@ use lib.Bits.{bitXor, differ, xor-zero-r}
 use lib.Dec.{T, T-not, eqb, eqb→eq, eqb-refl}
 use lib.ListN.{length}
 use Rattle.words.specs.Word.{picked, combined, sumTo}
-use Rattle.words.proofs.Bit.{by-bit, differ-lt, eq-of-differ, xor-odd}
+use Rattle.words.proofs.Bit.{by-bit, bit-cases, differ-lt, eq-of-differ, xor-odd}
 use Rattle.words.proofs.Linear.{combined-differ}
 use Rattle.words.proofs.Sum.{sum-zero}
 use Rattle.words.proofs.Test.{both, both-left, both-right, every}
@@ -45,10 +45,6 @@ module _ (h : ℕ) (hs : List ℕ) (t : T (fit? (h ∷ hs))) where
   rest-fit = both-right (every (λ x. not (eqb x h)) hs) (fit? hs) rest
 
 -- ---- the entries of none, of one and of two set places
-
--- a bit is 0 or 1, with the equation
-bit-cases : (x : ℕ) → x < 2 → (x ≡ 0) ⊎ (x ≡ 1)
-bit-cases x h = by-bit (λ (y : ℕ). (y ≡ 0) ⊎ (y ≡ 1)) (inl refl) (inr refl) x h
 
 pick-none : (x h r : ℕ) → x ≡ 0 → bitXor (picked x h) r ≡ r
 pick-none x h r e = ap (λ (y : ℕ). bitXor (picked y h) r) e

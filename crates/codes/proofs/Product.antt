@@ -12,53 +12,45 @@ use Rattle.words.proofs.Sum.{sum-le}
 use Rattle.words.proofs.Dist.{dist-self, dist-sym, dist-triangle, dist-places, eq-of-dist}
 use Rattle.codes.specs.Product.{Sides, InProduct, Same, unlike, placesApart, rowsApart, Distance4, ProductPromises}
 
--- ---- rows that differ
+-- ---- rows
 
-abbrev Unlike : ℕ → ℕ → Type 0
-Unlike a b = ((a ≡ b) × (dist a b ≡ 0)) ⊎ (0 < dist a b)
-
-unlike-cases : (a b : ℕ) → Unlike a b
-unlike-cases a b = go (eq-zero-or-pos (dist a b))
-  where
-    go : (dist a b ≡ 0) ⊎ (0 < dist a b) → Unlike a b
-    go (inl e) = inl (eq-of-dist a b e, e)
-    go (inr p) = inr p
-
--- a column unlike in no more places than rows do
+-- a column differs in no more places than there are rows that differ
 col-apart : (n c : ℕ) (u v : ℕ → ℕ) → sumTo n (λ r. differ (bit (u r) c) (bit (v r) c)) ≤ rowsApart n u v
 col-apart n c u v =
-    sum-le n (λ r. differ (bit (u r) c) (bit (v r) c)) (λ r. unlike (u r) (v r)) (λ r h. go (u r) (v r) (unlike-cases (u r) (v r)))
+    sum-le n (λ r. differ (bit (u r) c) (bit (v r) c)) (λ r. unlike (u r) (v r)) (λ r h. one (u r) (v r) (eq-zero-or-pos (dist (u r) (v r))))
   where
-    go : (a b : ℕ) → Unlike a b → differ (bit a c) (bit b c) ≤ unlike a b
-    go a b (inl (e, z)) = omega (arith, ap (λ (x : ℕ). differ (bit a c) (bit x c)) (sym e) ∙ differ-self (bit a c))
-    go a b (inr p) = omega (arith, differ-lt (bit a c) (bit b c) (bit-lt a c) (bit-lt b c))
+    one : (a b : ℕ) → (dist a b ≡ 0) ⊎ (0 < dist a b) → differ (bit a c) (bit b c) ≤ unlike a b
+    one a b (inl z) = omega (arith, ap (λ (x : ℕ). differ (bit a c) (bit x c)) (sym (eq-of-dist a b z)) ∙ differ-self (bit a c))
+    one a b (inr p) = omega (arith, differ-lt (bit a c) (bit b c) (bit-lt a c) (bit-lt b c))
+
+-- rows that differ in four places each
+rows-weight : (n : ℕ) (u v : ℕ → ℕ) → ((r : ℕ) → r < n → (u r ≡ v r) ⊎ (4 ≤ dist (u r) (v r))) → 4 * rowsApart n u v ≤ placesApart n u v
+rows-weight zero u v h = omega arith
+rows-weight (suc n) u v h =
+    omega (arith, one (u 0) (v 0) (h 0 (zero-lt-suc n)), rows-weight n (λ r. u (suc r)) (λ r. v (suc r)) (λ r l. h (suc r) (suc-le-suc l)))
+  where
+    one : (a b : ℕ) → (a ≡ b) ⊎ (4 ≤ dist a b) → 4 * unlike a b ≤ dist a b
+    one a b (inl e) = omega (arith, ap (dist a) (sym e) ∙ dist-self a)
+    one a b (inr f) = omega arith
 
 by-way : (n : ℕ) (u w v : ℕ → ℕ) → placesApart n u v ≤ placesApart n w u + placesApart n w v
 by-way zero u w v = omega arith
 by-way (suc n) u w v =
     omega (arith, dist-triangle (u 0) (w 0) (v 0), dist-sym (u 0) (w 0), by-way n (λ r. u (suc r)) (λ r. w (suc r)) (λ r. v (suc r)))
 
+-- two rows of the row code are the same, or differ in at least four places
+pub row-distance : (S : Sides) → Distance4 (S .side) (S .Row)
+    → (a b : ℕ) → a < 2 ^ S .side → b < 2 ^ S .side → S .Row (bit a) → S .Row (bit b) → (a ≡ b) ⊎ (4 ≤ dist a b)
+row-distance S row4 a b ha hb pa pb = go (row4 (bit a) (bit b) (bit-lt a) (bit-lt b) pa pb)
+  where
+    go : Same (S .side) (bit a) (bit b) ⊎ (4 ≤ sumTo (S .side) (λ i. differ (bit a i) (bit b i))) → (a ≡ b) ⊎ (4 ≤ dist a b)
+    go (inl s) = inl (eq-of-bits (S .side) a b ha hb s)
+    go (inr f) = inr (omega (arith, dist-places (S .side) a b ha hb))
+
+-- ---- words of the product
+
 module _ (S : Sides) (row4 : Distance4 (S .side) (S .Row)) (col4 : Distance4 (S .side) (S .Col)) where
-  -- two rows of the row code are the same, or differ in at least four places
-  pub row-distance : (a b : ℕ) → a < 2 ^ S .side → b < 2 ^ S .side → S .Row (bit a) → S .Row (bit b) → (a ≡ b) ⊎ (4 ≤ dist a b)
-  row-distance a b ha hb pa pb = go (row4 (bit a) (bit b) (bit-lt a) (bit-lt b) pa pb)
-    where
-      go : Same (S .side) (bit a) (bit b) ⊎ (4 ≤ sumTo (S .side) (λ i. differ (bit a i) (bit b i))) → (a ≡ b) ⊎ (4 ≤ dist a b)
-      go (inl s) = inl (eq-of-bits (S .side) a b ha hb s)
-      go (inr f) = inr (omega (arith, dist-places (S .side) a b ha hb))
-
-  -- each row that unlike does so in four places
-  rows-weight : (n : ℕ) (u v : ℕ → ℕ) → ((r : ℕ) → r < n → (u r ≡ v r) ⊎ (4 ≤ dist (u r) (v r)))
-      → 4 * rowsApart n u v ≤ placesApart n u v
-  rows-weight zero u v h = omega arith
-  rows-weight (suc n) u v h =
-      omega (arith, one (u 0) (v 0) (h 0 (zero-lt-suc n)), rows-weight n (λ r. u (suc r)) (λ r. v (suc r)) (λ r l. h (suc r) (suc-le-suc l)))
-    where
-      one : (a b : ℕ) → (a ≡ b) ⊎ (4 ≤ dist a b) → 4 * unlike a b ≤ dist a b
-      one a b (inl e) = omega (arith, ap (dist a) (sym e) ∙ dist-self a)
-      one a b (inr f) = omega arith
-
-  -- words that differ at all differ in four rows: some column unlike, and so in four places
+  -- words that differ at all differ in four rows: some column differs, and so in four places
   pub rows-distance : (u v : ℕ → ℕ) → InProduct S u → InProduct S v → Same (S .side) u v ⊎ (4 ≤ rowsApart (S .side) u v)
   rows-distance u v hu hv = go (decLe 4 (rowsApart (S .side) u v))
     where
@@ -84,7 +76,7 @@ module _ (S : Sides) (row4 : Distance4 (S .side) (S .Row)) (col4 : Distance4 (S 
           inr (omega (
             arith,
             rows-weight (S .side) u v
-                (λ r h. row-distance (u r) (v r) (hu .fits r h) (hv .fits r h) (hu .rows r h) (hv .rows r h)),
+                (λ r h. row-distance S row4 (u r) (v r) (hu .fits r h) (hv .fits r h) (hu .rows r h) (hv .rows r h)),
           ))
 
   one-within-7 : (read u v : ℕ → ℕ) → InProduct S u → InProduct S v → placesApart (S .side) read u ≤ 7 → placesApart (S .side) read v ≤ 7

@@ -1,4 +1,4 @@
--- Two trials are enough. Row by row, what both trials together pay, (2w + s) + (2w' + s'), is at most the places in which the row unlike
+-- Two trials are enough. Row by row, what both trials together pay, (2w + s) + (2w' + s'), is at most the places in which the row differs
 -- from the codeword's; seven cannot pay for 4 + 4. So a codeword within 7 is the candidate of one of them, and a trial has at most one
 -- candidate. Assumes nothing.
 use mathlib.Core.Path.{_≡_, refl, ap, _∙_}
@@ -61,7 +61,7 @@ module _ (S : Sides) (row4 : Distance4 (S .side) (S .Row)) (col4 : Distance4 (S 
   module _ (R : Repair S fix) where
     -- what a row costs both trials together
     row-cost : (x c : ℕ) → x < 2 ^ S .side → c < 2 ^ S .side → S .Row (bit c) → cost fix 2 x c + cost fix 1 x c ≤ dist x c
-    row-cost x c hx hc pc = go (row-distance S row4 col4 c (fix x) hc (R .fits x hx) pc (R .row x hx)) (trial-cases fix 2 x c) (trial-cases fix 1 x c)
+    row-cost x c hx hc pc = go (row-distance S row4 c (fix x) hc (R .fits x hx) pc (R .row x hx)) (trial-cases fix 2 x c) (trial-cases fix 1 x c)
       where
         same : c ≡ fix x → (dist x c ≡ dist x (fix x)) × (dist c (fix x) ≡ 0)
         same e = (ap (dist x) e, ap (λ (y : ℕ). dist y (fix x)) e ∙ dist-self (fix x))

@@ -10,6 +10,7 @@ use lib.Arith.{lt-of-le-ne}
 use lib.Dec.{leb, ltb, eqb}
 use borrow.Author.Tests.{ltb-true, ltb-false, leb-true, leb-false, eqb-true, eqb-false}
 use Rattle.words.specs.Word.{choose}
+use Rattle.words.proofs.Test.{below-suc}
 use Rattle.codes.specs.Verdict.{Code, Verdict, clean, mended, lost, tie, off, Least, Two, Alone, IsVerdict, Nearest, none, one, several, nearer, nearest, answered, judged, verdict}
 use Rattle.codes.specs.Promises.{Settled}
 
@@ -21,14 +22,6 @@ Kept f k (one d n) = Alone f k d n
 Kept f k (several n) = Least f k n × Two f k n
 
 module _ (f : ℕ → ℕ) (k : ℕ) where
-  -- a rule for the values below k and one for k itself
-  more : (P : ℕ → Type 0) → P k → ((e : ℕ) → e < k → P e) → (e : ℕ) → e < suc k → P e
-  more P p q e h = go (ℕ-discrete e k)
-    where
-      go : Dec (e ≡ k) → P e
-      go (yes s) = subst P (sym s) p
-      go (no d) = q e (lt-of-le-ne (omega arith) d)
-
   alone-least : (d n : ℕ) → Alone f k d n → Least f k n
   alone-least d n a = record { some = (d, a .below, a .at); least = λ e l. go e l (ℕ-discrete e d) }
     where
@@ -41,14 +34,14 @@ module _ (f : ℕ → ℕ) (k : ℕ) where
   nearest-yet n l m = record {
     below = le-refl (suc k);
     at = refl;
-    others = more (λ (e : ℕ). e ≢ k → f k < f e) (λ ne. absurd (ne refl)) (λ e h ne. omega (arith, m .least e h));
+    others = below-suc (λ (e : ℕ). e ≢ k → f k < f e) k (λ e h ne. omega (arith, m .least e h)) (λ ne. absurd (ne refl));
   }
 
   -- one that is no nearer
   still-least : (n : ℕ) → n ≤ f k → Least f k n → Least f (suc k) n
   still-least n l m =
       let (d, h, e) = m .some in
-      record { some = (d, omega arith, e); least = more (λ (e : ℕ). n ≤ f e) l (m .least) }
+      record { some = (d, omega arith, e); least = below-suc (λ (e : ℕ). n ≤ f e) k (m .least) l }
 
   step : (b : Nearest) → Kept f k b → Kept f (suc k) (nearer k (f k) b)
   unfolding nearer
@@ -70,7 +63,7 @@ module _ (f : ℕ → ℕ) (k : ℕ) where
       go false false p q = record {
         below = omega (arith, a .below);
         at = a .at;
-        others = more (λ (e : ℕ). e ≢ d → n < f e) (λ ne. lt-of-le-ne (ltb-false (f k) n p) (λ z. eqb-false (f k) n q (sym z))) (a .others);
+        others = below-suc (λ (e : ℕ). e ≢ d → n < f e) k (a .others) (λ ne. lt-of-le-ne (ltb-false (f k) n p) (λ z. eqb-false (f k) n q (sym z)));
       }
   step (several n) (m, t) = go (ltb (f k) n) refl
     where

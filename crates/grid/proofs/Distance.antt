@@ -1,4 +1,4 @@
--- Two grids differ in at least 16 places: each grid is in the product of the row code and the column code, and the product has that
+-- Two codewords differ in at least 16 places: each is in the product of the row code and the column code, and the product has that
 -- distance. Assumes nothing.
 use mathlib.Core.Path.{_≡_, refl, sym, ap, _∙_}
 use mathlib.Core.Logic.{_⊎_, inl, inr}

@@ -32,7 +32,7 @@ sixteen-apart : dist (codeword 0) (codeword 1) ≡ 16
 unfolding codeword dist ones
 sixteen-apart = dist-fields 8 8 (codeword 0) (codeword 1) (lit< tt) (lit< tt)
 
--- two grids are 16 places apart or more, and some no more
+-- two codewords are 16 places apart or more, and some no more
 states : {radius places n : ℕ} → radius ≡ 7 → places ≡ 64 → n ≤ 16 → 16 ≤ n → States gridCode radius places n
 states p q l h = record {
   radius-is = p;

@@ -1,6 +1,7 @@
 -- One place of a word: a bit is 0 or 1, the bit of an exclusive or is the parity of the two, and words with the same bits are the same.
 -- Assumes nothing.
 use mathlib.Core.Path.{_≡_, refl, sym, ap, _∙_, subst}
+use mathlib.Core.Logic.{_⊎_, inl, inr}
 use Prim.Native.Nat.{ℕ, zero, suc, _+_, _-_, _*_, _/_, _%_, _^_, _<_, suc-le-suc, min}
 use native.Mathlib.Nat.{le-of-suc-le-suc, not-suc-le-zero, mod-lt, zero-lt-suc, div-one, div-eq-of-lt, lt-of-le-of-lt, min-le-left}
 use native.Mathlib.Omega.{arith}
@@ -16,6 +17,10 @@ pub by-bit : (P : ℕ → Type 0) → P 0 → P 1 → (x : ℕ) → x < 2 → P 
 by-bit P p q zero h = p
 by-bit P p q (suc zero) h = q
 by-bit P p q (suc (suc x)) h = absurd (not-suc-le-zero (le-of-suc-le-suc (le-of-suc-le-suc h)))
+
+-- the same with the equation
+pub bit-cases : (x : ℕ) → x < 2 → (x ≡ 0) ⊎ (x ≡ 1)
+bit-cases x h = by-bit (λ (y : ℕ). (y ≡ 0) ⊎ (y ≡ 1)) (inl refl) (inr refl) x h
 
 pub odd-lt : (n : ℕ) → n % 2 < 2
 odd-lt n = mod-lt n (zero-lt-suc 1)

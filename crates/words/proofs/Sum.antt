@@ -2,14 +2,13 @@
 use mathlib.Core.Path.{_≡_, refl, sym, ap, ap₂, _∙_}
 use mathlib.Core.List.{List, [], _∷_}
 use Prim.Native.Nat.{ℕ, zero, suc, _+_, _*_, _/_, _%_, _^_, _≤_, _<_, suc-le-suc}
-use native.Mathlib.Nat.{zero-lt-suc, le-of-suc-le-suc, zero-mul, add-mul, mul-assoc, div-one, pow-suc}
-use native.Mathlib.Decide.{ℕ-discrete}
+use native.Mathlib.Nat.{zero-lt-suc, zero-mul, add-mul, mul-assoc, div-one, pow-suc}
 use native.Mathlib.Omega.{arith}
-use lib.Arith.{lt-of-le-ne, lt-one}
+use lib.Arith.{lt-one}
 use lib.Dec.{T, ltb, ltb→lt}
 use Rattle.words.specs.Word.{bit, sumTo, sumOver, IsParity}
 use Rattle.words.proofs.Bit.{bit-half, half-lt}
-use Rattle.words.proofs.Test.{every, both-left, both-right}
+use Rattle.words.proofs.Test.{every, both-left, both-right, below-suc}
 
 pub sum-eq : (n : ℕ) (f g : ℕ → ℕ) → ((i : ℕ) → i < n → f i ≡ g i) → sumTo n f ≡ sumTo n g
 sum-eq zero f g h = refl
@@ -65,17 +64,13 @@ parity-rule {f} {g} {t} {is} p q h e = record {
     mods : (x y : ℕ) → (x % 2 + y % 2) % 2 ≡ (x + y) % 2
     mods x y = omega arith
 
-none-set : (n : ℕ) (f : ℕ → ℕ) → ((i : ℕ) → i < n → f i ≡ 0) → (is : List ℕ) → T (every (λ i. ltb i n) is) → sumOver f is ≡ 0
-none-set n f h [] t = refl
-none-set n f h (i ∷ is) t =
+none-listed : (n : ℕ) (f : ℕ → ℕ) → ((i : ℕ) → i < n → f i ≡ 0) → (is : List ℕ) → T (every (λ i. ltb i n) is) → sumOver f is ≡ 0
+none-listed n f h [] t = refl
+none-listed n f h (i ∷ is) t =
     ap₂ (λ (x y : ℕ). x + y) (h i (ltb→lt i n (both-left (ltb i n) (every (λ i. ltb i n) is) t)))
-    (none-set n f h is (both-right (ltb i n) (every (λ i. ltb i n) is) t))
+    (none-listed n f h is (both-right (ltb i n) (every (λ i. ltb i n) is) t))
 
 -- places below n are not set, and place n is a parity of such: so no place up to n is set
 pub zero-next : {f : ℕ → ℕ} {n : ℕ} {is : List ℕ} → IsParity f n is → T (every (λ i. ltb i n) is) → ((i : ℕ) → i < n → f i ≡ 0)
     → (i : ℕ) → i < suc n → f i ≡ 0
-zero-next {f} {n} {is} p t h i l = go (ℕ-discrete i n)
-  where
-    go : Dec (i ≡ n) → f i ≡ 0
-    go (yes q) = ap f q ∙ p .parity ∙ ap (λ (x : ℕ). x % 2) (none-set n f h is t)
-    go (no q) = h i (lt-of-le-ne (le-of-suc-le-suc l) q)
+zero-next {f} {n} {is} p t h = below-suc (λ i. f i ≡ 0) n h (p .parity ∙ ap (λ (x : ℕ). x % 2) (none-listed n f h is t))

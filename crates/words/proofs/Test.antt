@@ -1,10 +1,12 @@
--- A rule at every number below a bound, or at every entry of a list, by a test that antt computes. Assumes nothing.
+-- Tests that antt computes, over the numbers below a bound and over the entries of a list, and the rule that the first give at each number.
+-- Assumes nothing.
 use mathlib.Core.Path.{_≡_, subst, sym}
-use mathlib.Core.Logic.{_⊎_, inl, inr}
 use mathlib.Core.Bool.{Bool, true, false}
 use mathlib.Core.List.{List, [], _∷_}
 use Prim.Native.Nat.{ℕ, zero, suc, _<_}
-use native.Mathlib.Nat.{le-of-suc-le-suc, not-suc-le-zero, eq-or-lt-of-le}
+use native.Mathlib.Nat.{not-suc-le-zero}
+use native.Mathlib.Numerals.{add-one}
+use borrow.Author.Count.{below-more}
 use lib.Dec.{T, eqb, eqb→eq}
 
 abbrev pub both : Bool → Bool → Bool
@@ -24,13 +26,13 @@ abbrev pub allBelow : ℕ → (ℕ → Bool) → Bool
 allBelow zero f = true
 allBelow (suc n) f = both (f n) (allBelow n f)
 
+-- what holds below n and at n holds below n + 1
+pub below-suc : (P : ℕ → Type 0) (n : ℕ) → ((i : ℕ) → i < n → P i) → P n → (i : ℕ) → i < suc n → P i
+below-suc P n all here i h = below-more P n all here i (subst (λ (m : ℕ). i < m) (sym (add-one n)) h)
+
 pub at-below : (n : ℕ) (f : ℕ → Bool) → T (allBelow n f) → (i : ℕ) → i < n → T (f i)
-at-below zero f t i h = absurd (not-suc-le-zero h)
-at-below (suc n) f t i h = go (at-below n f (both-right (f n) (allBelow n f) t) i) (eq-or-lt-of-le (le-of-suc-le-suc h))
-  where
-    go : (i < n → T (f i)) → (i ≡ n) ⊎ (i < n) → T (f i)
-    go rest (inl e) = subst (λ (k : ℕ). T (f k)) (sym e) (both-left (f n) (allBelow n f) t)
-    go rest (inr l) = rest l
+at-below zero f t = λ i h. absurd (not-suc-le-zero h)
+at-below (suc n) f t = below-suc (λ i. T (f i)) n (at-below n f (both-right (f n) (allBelow n f) t)) (both-left (f n) (allBelow n f) t)
 
 -- two functions agree below n, by computing both
 pub same-below : (n : ℕ) (f g : ℕ → ℕ) → T (allBelow n (λ i. eqb (f i) (g i))) → (i : ℕ) → i < n → f i ≡ g i
@@ -47,6 +49,6 @@ pub same-pairs : (m n : ℕ) (f g : ℕ → ℕ → ℕ) → T (allPairs m n (λ
 same-pairs m n f g t i j hi hj = eqb→eq (f i j) (g i j) (at-pair m n (λ k l. eqb (f k l) (g k l)) t i j hi hj)
 
 -- the test f passes at each entry of a list
-abbrev pub every : (ℕ → Bool) → List ℕ → Bool
+abbrev pub every : {A : Type 0} → (A → Bool) → List A → Bool
 every f [] = true
 every f (x ∷ xs) = both (f x) (every f xs)
