@@ -83,7 +83,7 @@ two-set (h ∷ hs) f t b e z = go (bit-cases (f 0) (b 0)) (two-set hs (λ i. f (
 
 -- ---- the lowest digit is the parity of the set places
 
-parity : (hs : List ℕ) (f : ℕ → ℕ) → T (fit? hs) → ((i : ℕ) → f i < 2) → combined hs f % 2 ≡ sumTo (length hs) f % 2
+pub parity : (hs : List ℕ) (f : ℕ → ℕ) → T (fit? hs) → ((i : ℕ) → f i < 2) → combined hs f % 2 ≡ sumTo (length hs) f % 2
 parity [] f t b = refl
 parity (h ∷ hs) f t b = go (bit-cases (f 0) (b 0)) (parity hs (λ i. f (suc i)) (rest-fit h hs t) (λ i. b (suc i)))
   where

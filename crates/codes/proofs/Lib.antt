@@ -3,3 +3,4 @@ pub mod Promises
 pub mod Product
 pub mod Trials
 pub mod Address
+pub mod Column

@@ -14,14 +14,17 @@ use Rattle.codes.specs.Product.{Sides, InProduct, Same, unlike, placesAp
 
 -- ---- rows
 
+-- where a place differs the rows do
+pub bit-unlike : (c a b : ℕ) → differ (bit a c) (bit b c) ≤ unlike a b
+bit-unlike c a b = go (eq-zero-or-pos (dist a b))
+  where
+    go : (dist a b ≡ 0) ⊎ (0 < dist a b) → differ (bit a c) (bit b c) ≤ unlike a b
+    go (inl z) = omega (arith, ap (λ (x : ℕ). differ (bit a c) (bit x c)) (sym (eq-of-dist a b z)) ∙ differ-self (bit a c))
+    go (inr p) = omega (arith, differ-lt (bit a c) (bit b c) (bit-lt a c) (bit-lt b c))
+
 -- a column differs in no more places than there are rows that differ
 col-apart : (n c : ℕ) (u v : ℕ → ℕ) → sumTo n (λ r. differ (bit (u r) c) (bit (v r) c)) ≤ rowsApart n u v
-col-apart n c u v =
-    sum-le n (λ r. differ (bit (u r) c) (bit (v r) c)) (λ r. unlike (u r) (v r)) (λ r h. one (u r) (v r) (eq-zero-or-pos (dist (u r) (v r))))
-  where
-    one : (a b : ℕ) → (dist a b ≡ 0) ⊎ (0 < dist a b) → differ (bit a c) (bit b c) ≤ unlike a b
-    one a b (inl z) = omega (arith, ap (λ (x : ℕ). differ (bit a c) (bit x c)) (sym (eq-of-dist a b z)) ∙ differ-self (bit a c))
-    one a b (inr p) = omega (arith, differ-lt (bit a c) (bit b c) (bit-lt a c) (bit-lt b c))
+col-apart n c u v = sum-le n (λ r. differ (bit (u r) c) (bit (v r) c)) (λ r. unlike (u r) (v r)) (λ r h. bit-unlike c (u r) (v r))
 
 -- rows that differ in four places each
 rows-weight : (n : ℕ) (u v : ℕ → ℕ) → ((r : ℕ) → r < n → (u r ≡ v r) ⊎ (4 ≤ dist (u r) (v r))) → 4 * rowsApart n u v ≤ placesApart n u v

@@ -4,16 +4,18 @@
 use mathlib.Core.Path.{_≡_, refl, ap, _∙_}
 use mathlib.Core.Logic.{_⊎_, inl, inr}
 use mathlib.Core.Bool.{Bool, true, false}
-use Prim.Native.Nat.{ℕ, zero, suc, _+_, _*_, _^_, _≤_, _<_, suc-le-suc}
+use Prim.Native.Nat.{ℕ, zero, suc, _+_, _*_, _^_, _≤_, _<_, suc-le-suc, min}
 use native.Mathlib.Nat.{zero-lt-suc}
 use native.Mathlib.Decide.{decLe}
 use native.Mathlib.Omega.{arith}
+use lib.Bits.{differ}
 use lib.Dec.{leb}
 use borrow.Author.Tests.{leb-true, leb-false}
 use Rattle.words.specs.Word.{choose, bit, dist, sumTo}
 use Rattle.words.proofs.Dist.{dist-self, dist-sym, dist-triangle}
+use Rattle.words.proofs.Sum.{sum-le}
 use Rattle.codes.specs.Product.{Sides, InProduct, Same, unlike, placesApart, rowsApart, Distance4, Repair, aside, wrong, pays, Candidate, TrialPromises, EveryProduct}
-use Rattle.codes.proofs.Product.{row-distance, rows-distance, product-promises}
+use Rattle.codes.proofs.Product.{bit-unlike, row-distance, rows-distance, product-promises}
 
 -- ---- a row in a trial: set aside, or not
 
@@ -97,6 +99,23 @@ module _ (S : Sides) (row4 : Distance4 (S .side) (S .Row)) (col4 : Distance4 (S 
 
     trial-promises : TrialPromises S fix
     trial-promises = record { one-candidate = one-candidate; two-trials = two-trials }
+
+-- column i of a candidate agrees with the repaired rows in all rows but the s set aside and w others, with 2w + s at most 3
+pub candidate-column : (S : Sides) (fix : ℕ → ℕ) (t : ℕ) (read u : ℕ → ℕ) → Candidate S fix t read u → (i : ℕ)
+    → 2 * sumTo (S .side) (λ r. min (differ (aside fix t (read r)) 1) (differ (bit (fix (read r)) i) (bit (u r) i)))
+    + sumTo (S .side) (λ r. aside fix t (read r)) ≤ 3
+candidate-column S fix t read u c i =
+    omega (
+      arith,
+      c .few,
+      sum-le (S .side) (λ r. min (differ (aside fix t (read r)) 1) (differ (bit (fix (read r)) i) (bit (u r) i)))
+          (λ r. wrong fix t (read r) (u r))
+          (λ r h. each (read r) (u r) (trial-cases fix t (read r) (u r))),
+    )
+  where
+    each : (x v : ℕ) → Trial fix t x v → min (differ (aside fix t x) 1) (differ (bit (fix x) i) (bit v i)) ≤ wrong fix t x v
+    each x v (inl (l, e, z)) = omega (arith, ap (λ (y : ℕ). differ y 1) e)
+    each x v (inr (l, e, z)) = omega (arith, bit-unlike i (fix x) v, dist-sym v (fix x))
 
 pub every-product : (S : Sides) → EveryProduct S
 every-product S = record { product = product-promises S; trials = trial-promises S }

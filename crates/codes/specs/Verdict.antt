@@ -85,3 +85,30 @@ judged radius (several n) = choose (leb n radius) tie lost
 
 unfoldable pub verdict : Code → ℕ → Verdict
 verdict C w = judged (C .radius) (nearest (off C w) (C .values))
+
+-- ---- what document 01 returns and writes for a verdict
+
+-- its number, and 0 where there is no refusal: lost has a number for each code, tie is 5
+abbrev pub refusal : ℕ → Verdict → ℕ
+refusal forLost (clean d) = 0
+refusal forLost (mended d n) = 0
+refusal forLost lost = forLost
+refusal forLost tie = 5
+
+-- the flips, and 0 where there are none
+abbrev pub flipsOf : Verdict → ℕ
+flipsOf (clean d) = 0
+flipsOf (mended d n) = n
+flipsOf lost = 0
+flipsOf tie = 0
+
+-- the word put right: the codeword, and on refusal the word as read
+abbrev pub repaired : Code → ℕ → Verdict → ℕ
+repaired C w (clean d) = C .encode d
+repaired C w (mended d n) = C .encode d
+repaired C w lost = w
+repaired C w tie = w
+
+-- the word w after it was judged
+abbrev pub scrubbed : Code → ℕ → ℕ
+scrubbed C w = repaired C w (verdict C w)

@@ -94,7 +94,7 @@ is-codeword =
 quarter : (r c : ℕ) → r < 4 → c < 4 → ((4 * r + c) / 4 ≡ r) × ((4 * r + c) % 4 ≡ c) × (4 * r + c < 16)
 quarter r c hr hc = omega arith
 
-eighth : (i : ℕ) → i < 64 → (8 * (i / 8) + i % 8 ≡ i) × (i / 8 < 8) × (i % 8 < 8)
+pub eighth : (i : ℕ) → i < 64 → (8 * (i / 8) + i % 8 ≡ i) × (i / 8 < 8) × (i % 8 < 8)
 eighth i h = omega arith
 
 -- a grid with no data place set is empty: place after place, row after row

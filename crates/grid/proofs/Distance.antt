@@ -2,7 +2,6 @@
 -- distance. Assumes nothing.
 use mathlib.Core.Path.{_≡_, refl, sym, ap, _∙_}
 use mathlib.Core.Logic.{_⊎_, inl, inr}
-use mathlib.Core.List.{List, [], _∷_}
 use Prim.Native.Nat.{ℕ, _^_, _≤_, _<_}
 use lib.Bits.{bitXor}
 use lib.Dec.{eqb}
@@ -19,15 +18,10 @@ use Rattle.codes.specs.Promises.{Distance}
 use Rattle.codes.proofs.Address.{ByEntries, distance4}
 use Rattle.codes.proofs.Trials.{every-product}
 use Rattle.grid.specs.Code.{codeword, gridCode}
+use Rattle.grid.specs.Steps.{rowEntries, colEntries}
 use Rattle.grid.proofs.Codeword.{grids, is-codeword, one-value}
 
--- ---- the row code and the column code, by the entries 2 · address + 1 of places 0 to 7
-
-abbrev pub rowEntries : List ℕ
-rowEntries = 7 ∷ 11 ∷ 15 ∷ 13 ∷ 3 ∷ 5 ∷ 9 ∷ 1 ∷ []
-
-abbrev pub colEntries : List ℕ
-colEntries = 7 ∷ 11 ∷ 13 ∷ 15 ∷ 3 ∷ 5 ∷ 9 ∷ 1 ∷ []
+-- ---- the row code and the column code
 
 abbrev pub sides : Sides
 sides = record { side = 8; Row = ByEntries rowEntries; Col = ByEntries colEntries }

@@ -4,7 +4,10 @@ use mathlib.Core.List.{List}
 use Prim.Native.Nat.{ℕ}
 use Rattle.words.specs.Fields.{fields, joined}
 use Rattle.grid.specs.Equations.{Codeword}
-use Rattle.grid.specs.Code.{codeword}
+use Rattle.codes.specs.Verdict.{verdict, scrubbed}
+use Rattle.grid.specs.Code.{codeword, gridCode}
+use Rattle.grid.specs.Answer.{means}
+use Rattle.grid.specs.declared.Answer.{Answer}
 
 -- `Grid::encode`: the rows of the grid of d, which meets the equations.
 pub record Encoded (d : ℕ) (rows : List ℕ) : Type 0 where
@@ -18,3 +21,8 @@ pub record Numbered (rows : List ℕ) (w : ℕ) : Type 0 where
 -- `Grid::of_number`: the same, back.
 pub record Parted (w : ℕ) (rows : List ℕ) : Type 0 where
   pub answer : rows ≡ fields 8 8 w
+
+-- `Grid::decode`: document 01's verdict on the grid, and beside it the codeword, or on refusal the grid as read.
+pub record Decoded (rows : List ℕ) (r : Answer) : Type 0 where
+  pub answer : means (r .verdict) ≡ verdict gridCode (joined 8 rows)
+  pub repaired : r .grid .rows ≡ fields 8 8 (scrubbed gridCode (joined 8 rows))

@@ -1,5 +1,7 @@
 pub mod Equations
 pub mod Code
+pub mod Answer
 pub mod Calls
 pub mod Promises
 pub mod Cases
+pub mod Steps

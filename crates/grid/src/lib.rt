@@ -18,14 +18,41 @@
 // specs/Promises.antt what is proved of the code. As a number a grid has row r in byte r, lowest
 // byte first, and place c of a row in bit c.
 ghost use mathlib.Core.Path.{_≡_};
+ghost use mathlib.Core.List.{map};
 ghost use Prim.Native.Nat.{ℕ, _+_, _*_, _/_, _%_, _^_, _<_};
 ghost use lib.Bits.{bitAnd};
+ghost use lib.ListN.{getD};
+ghost use Rattle.words.specs.Fields.{joined};
 ghost use Rattle.codes.specs.Promises.{States};
 ghost use Rattle.grid.specs.Code.{codeword, gridCode};
-ghost use Rattle.grid.specs.Calls.{Encoded, Numbered, Parted};
+ghost use Rattle.grid.specs.Calls.{Encoded, Numbered, Parted, Decoded};
+ghost use Rattle.grid.specs.Steps.{mendedRow, Asides, Tried, Nearby};
+
+mod columns;
+mod row;
 
 pub struct Grid {
     pub rows: [u8; 8],
+}
+
+// What was read, by the nearest codeword: its data, and the number of places that were not its own.
+pub enum Verdict {
+    Clean(u16),
+    Mended { data: u16, flips: u32 },
+    Lost,
+    Tie,
+}
+
+// A verdict, with the codeword beside it, or the grid as read where there is no data.
+pub struct Answer {
+    pub verdict: Verdict,
+    pub grid: Grid,
+}
+
+// A codeword, and in how many places the word read differs from it.
+struct Near {
+    pub number: u64,
+    pub flips: u32,
 }
 
 // The data places: data bit k goes to row k / 4, place k mod 4, of rows 0 to 3 as one number.
@@ -68,6 +95,41 @@ fn lower(rows: u32) -> u32
     all ^ left_out
 }
 
+// The grid with these data places.
+fn completed(places: u32) -> u64
+    ensures { λ r. ⌜ ((d : ℕ) → d < 2 ^ 16 → places ≡ bitAnd (codeword d) 0x0F0F_0F0F → r ≡ codeword d) ⌝ }
+{
+    let rows = upper(places);
+    ((lower(rows) as u64) << 32) | (rows as u64)
+}
+
+// The data places of a grid.
+fn places_of(w: u64) -> u32
+    ensures { λ r. ⌜ r ≡ bitAnd w 0x0F0F_0F0F ⌝ }
+{
+    (w & 0x0F0F_0F0F) as u32
+}
+
+// The data that stands in the data places.
+fn data_of(places: u32) -> u16
+    ensures { λ r. ⌜ (bitAnd places 0x0F0F_0F0F ≡ places → bitAnd (codeword r) 0x0F0F_0F0F ≡ places) ⌝ }
+{
+    let pairs = (places ^ (places >> 4)) & 0x00FF_00FF;
+    ((pairs ^ (pairs >> 8)) & 0xFFFF) as u16
+}
+
+// A trial: the rows put right column by column, and the places of the codeword that is reached, counted.
+fn tried(word: u64, rows: u64, aside: u64) -> Near
+    requires { ⌜ Asides aside ⌝ }
+    ensures { λ r. ⌜ Tried word rows aside (r .number) (r .flips) ⌝ }
+{
+    let number = completed(places_of(columns::solved(rows, aside)));
+    Near {
+        number,
+        flips: u64::count_ones(word ^ number),
+    }
+}
+
 // The lowest byte.
 fn byte(w: u64) -> u8
     ensures { λ r. ⌜ r ≡ w % 256 ⌝ }
@@ -76,10 +138,23 @@ fn byte(w: u64) -> u8
 }
 
 // The number whose lowest byte is `row`, with `above` over it.
-fn with_row(above: u64, row: u8) -> u64
-    ensures { λ r. ⌜ (above < 2 ^ 56 → r ≡ above * 2 ^ 8 + row) ⌝ }
+fn with_row(above: u64, row: u64) -> u64
+    ensures { λ r. ⌜ (above < 2 ^ 56 → row < 2 ^ 8 → r ≡ above * 2 ^ 8 + row) ⌝ }
 {
-    (above << 8) | (row as u64)
+    (above << 8) | row
+}
+
+// The number that has `rows`, each a byte, from the lowest byte on.
+fn stacked(rows: [u64; 8]) -> u64
+    ensures { λ r. ⌜ (((i : ℕ) → getD rows i 0 < 2 ^ 8) → r ≡ joined 8 rows) ⌝ }
+{
+    let a = with_row(rows[7], rows[6]);
+    let b = with_row(a, rows[5]);
+    let c = with_row(b, rows[4]);
+    let d = with_row(c, rows[3]);
+    let e = with_row(d, rows[2]);
+    let f = with_row(e, rows[1]);
+    with_row(f, rows[0])
 }
 
 impl Grid {
@@ -94,9 +169,7 @@ impl Grid {
         ensures { λ r. ⌜ Encoded value (r .rows) ⌝ }
         ensures constants { λ r. do ⌜ States gridCode (← ⟦Grid::RADIUS⟧ .entry) (← ⟦Grid::LENGTH⟧ .entry) (← ⟦Grid::DISTANCE⟧ .entry) ⌝ }
     {
-        let rows = upper(data_places(value));
-        let checks = lower(rows);
-        Grid::of_number(((checks as u64) << 32) | (rows as u64))
+        Grid::of_number(completed(data_places(value)))
     }
 
     // The grid as a number.
@@ -104,13 +177,16 @@ impl Grid {
         ensures { λ r. ⌜ Numbered (self .rows) r ⌝ }
     {
         let rows = self.rows;
-        let a = with_row(rows[7] as u64, rows[6]);
-        let b = with_row(a, rows[5]);
-        let c = with_row(b, rows[4]);
-        let d = with_row(c, rows[3]);
-        let e = with_row(d, rows[2]);
-        let f = with_row(e, rows[1]);
-        with_row(f, rows[0])
+        stacked([
+            rows[0] as u64,
+            rows[1] as u64,
+            rows[2] as u64,
+            rows[3] as u64,
+            rows[4] as u64,
+            rows[5] as u64,
+            rows[6] as u64,
+            rows[7] as u64,
+        ])
     }
 
     // The grid that a number is.
@@ -135,6 +211,67 @@ impl Grid {
                 byte(g),
                 byte(h),
             ],
+        }
+    }
+
+    // Each row put right, one after the other: in byte r what a trial needs of row r.
+    fn mended_rows(self) -> u64
+        ensures { λ r. ⌜ r ≡ joined 8 (map mendedRow (self .rows)) ⌝ }
+    {
+        let rows = self.rows;
+        stacked([
+            row::mended(rows[0]),
+            row::mended(rows[1]),
+            row::mended(rows[2]),
+            row::mended(rows[3]),
+            row::mended(rows[4]),
+            row::mended(rows[5]),
+            row::mended(rows[6]),
+            row::mended(rows[7]),
+        ])
+    }
+
+    // The codeword of the first trial if it is near enough, and that of the second if not. Trial one
+    // sets the rows aside that took two flips, trial two those that took one or two.
+    fn nearest(self, word: u64) -> Near
+        requires { ⌜ word ≡ joined 8 (self .rows) ⌝ }
+        ensures { λ r. ⌜ Nearby word (r .number) (r .flips) ⌝ }
+    {
+        let rows = self.mended_rows();
+        let two = rows >> 5;
+        let first = tried(word, rows, two & 0x0101_0101_0101_0101);
+        if first.flips <= Grid::RADIUS {
+            return first;
+        }
+        tried(word, rows, ((rows >> 4) ^ two) & 0x0101_0101_0101_0101)
+    }
+
+    // The verdict on a grid that was read, whatever was done to it.
+    pub fn decode(self) -> Answer
+        ensures { λ r. ⌜ Decoded (self .rows) r ⌝ }
+    {
+        let word = self.number();
+        let places = places_of(word);
+        if completed(places) == word {
+            return Answer {
+                verdict: Verdict::Clean(data_of(places)),
+                grid: self,
+            };
+        }
+        let near = self.nearest(word);
+        let flips = near.flips;
+        if flips <= Grid::RADIUS {
+            return Answer {
+                verdict: Verdict::Mended {
+                    data: data_of(places_of(near.number)),
+                    flips,
+                },
+                grid: Grid::of_number(near.number),
+            };
+        }
+        Answer {
+            verdict: Verdict::Lost,
+            grid: self,
         }
     }
 }

@@ -5,6 +5,7 @@ ghost use lib.ListN.{getD};
 ghost use Rattle.words.specs.Fields.{fields};
 ghost use Rattle.grid.specs.Equations.{Codeword};
 use grid::Grid;
+use grid::Verdict;
 
 // The number of the grid of `value`.
 #[no_mangle]
@@ -50,4 +51,21 @@ pub extern "C" fn grid_distance() -> u32
     ensures { λ r. ⌜ r ≡ 16 ⌝ }
 {
     Grid::DISTANCE
+}
+
+// The answer on the grid with the number `w`: document 01's number in byte 3, flips in byte 2, data in
+// the two lowest, and the number of the repaired grid in `repaired`.
+#[no_mangle]
+pub extern "C" fn grid_decode(w: u64, repaired: &mut u64) -> u32
+{
+    let a = Grid::of_number(w).decode();
+    let grid = a.grid;
+    *repaired = grid.number();
+    let v = a.verdict;
+    match v {
+        Verdict::Clean(data) => data as u32,
+        Verdict::Mended { data, flips } => (data as u32) | (flips << 16),
+        Verdict::Lost => 0x0100_0000,
+        Verdict::Tie => 0x0500_0000,
+    }
 }

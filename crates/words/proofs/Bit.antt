@@ -8,7 +8,8 @@ use native.Mathlib.Omega.{arith}
 use native.Mathlib.Numerals.{add-one, one-add}
 use lib.Arith.{digits-mod, lt-one}
 use lib.Pow.{shr-shr, shr-lt, field, mod-mod-pow, pow-pos}
-use lib.Bits.{bitXor, bitAnd, differ, xor-step, and-step, xor-shr, and-shr}
+use lib.Count.{trailingZeros, under}
+use lib.Bits.{bitXor, bitAnd, differ, xor-step, and-step, xor-shr, and-shr, and-le-r}
 use Rattle.words.specs.Word.{bit}
 
 -- ---- 0 or 1
@@ -58,6 +59,10 @@ differ-min x y hx hy =
     (by-bit (λ (q : ℕ). q + min 0 q * 2 ≡ 0 + q) refl refl y hy)
     (by-bit (λ (q : ℕ). differ 1 q + min 1 q * 2 ≡ 1 + q) refl refl y hy) x hx
 
+pub differ-zero : (x : ℕ) → differ x 0 ≡ x
+differ-zero zero = refl
+differ-zero (suc x) = refl
+
 pub differ-self : (x : ℕ) → differ x x ≡ 0
 differ-self zero = refl
 differ-self (suc x) = differ-self x
@@ -94,6 +99,9 @@ and-odd a b =
     ap (λ (x : ℕ). x % 2) (and-step a b)
     ∙ digits-mod (bitAnd (a / 2) (b / 2)) (lt-of-le-of-lt (min-le-left (a % 2) (b % 2)) (odd-lt a))
 
+pub bit-and : (a b i : ℕ) → bit (bitAnd a b) i ≡ min (bit a i) (bit b i)
+bit-and a b i = ap (λ (x : ℕ). x % 2) (and-shr a b i) ∙ and-odd (a / 2 ^ i) (b / 2 ^ i)
+
 -- ---- places of a part of a word
 
 pub half-lt : {n : ℕ} (k : ℕ) → n < 2 ^ suc k → n / 2 < 2 ^ k
@@ -121,3 +129,23 @@ eq-of-bits (suc k) a b ha hb h =
     eq-of-bits k (a / 2) (b / 2) (half-lt k ha) (half-lt k hb) (λ i l. sym (bit-half a i) ∙ h (suc i) (suc-le-suc l) ∙ bit-half b i) in
     let o : a % 2 ≡ b % 2 = ap (λ (x : ℕ). x % 2) (sym (div-one a)) ∙ h 0 (zero-lt-suc k) ∙ ap (λ (x : ℕ). x % 2) (div-one b) in
     omega arith
+
+-- a mask that is laid on twice
+pub and-twice : (k a m : ℕ) → m < 2 ^ k → bitAnd (bitAnd a m) m ≡ bitAnd a m
+and-twice k a m h =
+    eq-of-bits k (bitAnd (bitAnd a m) m) (bitAnd a m) (lt-of-le-of-lt (and-le-r (bitAnd a m) m) h) (lt-of-le-of-lt (and-le-r a m) h)
+    (λ i l. omega (arith, bit-and (bitAnd a m) m i, bit-and a m i))
+
+-- ---- the lowest place that is set
+
+pub trailing-set : (k n : ℕ) → 0 < n → n < 2 ^ k → (trailingZeros k n < k) × (bit n (trailingZeros k n) ≡ 1)
+unfolding trailingZeros
+trailing-set zero n p h = absurd (omega (arith, lt-one h))
+trailing-set (suc k) n p h = go (n % 2) refl (trailing-set k (n / 2))
+  where
+    go : (d : ℕ) → n % 2 ≡ d → (0 < n / 2 → n / 2 < 2 ^ k → (trailingZeros k (n / 2) < k) × (bit (n / 2) (trailingZeros k (n / 2)) ≡ 1))
+        → (under d (trailingZeros k (n / 2)) < suc k) × (bit n (under d (trailingZeros k (n / 2))) ≡ 1)
+    go zero e r =
+        let (l, b) = r (omega (arith, e)) (half-lt k h) in
+        (suc-le-suc l, bit-half n (trailingZeros k (n / 2)) ∙ b)
+    go (suc d) e r = (zero-lt-suc k, ap (λ (x : ℕ). x % 2) (div-one n) ∙ omega (arith, e, odd-lt n))

@@ -2,8 +2,8 @@
 -- the sum over their fields. Assumes nothing.
 use mathlib.Core.Path.{_≡_, refl, sym, ap, ap₂, _∙_, subst}
 use mathlib.Core.List.{List, [], _∷_}
-use Prim.Native.Nat.{ℕ, zero, suc, _+_, _*_, _/_, _%_, _^_, _<_}
-use native.Mathlib.Nat.{mod-lt, le-of-suc-le-suc, not-suc-le-zero, suc-mul, add-comm, zero-mul, mod-eq-of-lt}
+use Prim.Native.Nat.{ℕ, zero, suc, _+_, _*_, _/_, _%_, _^_, _<_, suc-le-suc}
+use native.Mathlib.Nat.{mod-lt, zero-lt-suc, le-of-suc-le-suc, not-suc-le-zero, suc-mul, add-comm, zero-mul, mod-eq-of-lt}
 use native.Mathlib.Omega.{arith}
 use lib.ListN.{length, getD}
 use lib.Arith.{lt-one}
@@ -55,6 +55,11 @@ listed-all (x ∷ xs) = ap {B = List ℕ} (λ l. x ∷ l) (listed-all xs)
 pub listed-getD : (n : ℕ) (xs : List ℕ) → length xs ≡ n → xs ≡ listed n (λ i. getD xs i 0)
 listed-getD n xs e = listed-all xs ∙ ap (λ (m : ℕ). listed m (λ i. getD xs i 0)) e
 
+pub listed-below : (k n : ℕ) (f : ℕ → ℕ) → ((i : ℕ) → f i < 2 ^ k) → Below k (listed n f)
+listed-below k zero f h i = pow-pos k
+listed-below k (suc n) f h zero = h 0
+listed-below k (suc n) f h (suc i) = listed-below k n (λ i. f (suc i)) (λ i. h (suc i)) i
+
 -- ---- a word put together from two parts, by a shift and an or
 
 pub side-by-side : (j k : ℕ) {a b : ℕ} → a < 2 ^ j → b < 2 ^ k → bitOr (a * 2 ^ k % 2 ^ (j + k)) b ≡ a * 2 ^ k + b
@@ -62,6 +67,16 @@ side-by-side j k {a} {b} ha hb = ap (λ (x : ℕ). bitOr x b) (mod-eq-of-lt (shl
 
 pub both-parts : (j k w : ℕ) → w < 2 ^ (j + k) → bitOr (w / 2 ^ k * 2 ^ k % 2 ^ (j + k)) (w % 2 ^ k) ≡ w
 both-parts j k w h = side-by-side j k (shr-lt j k h) (mod-lt w (pow-pos k)) ∙ split w k
+
+-- ---- fields of 0 or 1, each filled
+
+pub filled : (n w : ℕ) → ((i : ℕ) → i < n → getD (fields 8 n w) i 0 < 2) → (i : ℕ) → i < n
+    → getD (fields 8 n (w * 255)) i 0 ≡ getD (fields 8 n w) i 0 * 255
+filled zero w h i l = absurd (not-suc-le-zero l)
+filled (suc n) w h zero l = omega (arith, h 0 l)
+filled (suc n) w h (suc i) l =
+    let e : w * 255 / 256 ≡ w / 256 * 255 = omega (arith, h 0 (zero-lt-suc n)) in
+    ap (λ (x : ℕ). getD (fields 8 n x) i 0) e ∙ filled n (w / 256) (λ i l. h (suc i) (suc-le-suc l)) i (le-of-suc-le-suc l)
 
 -- ---- the distance is the sum over the fields
 

@@ -4,19 +4,19 @@
 use mathlib.Core.Path.{_≡_, refl, sym, ap, ap₂, _∙_, subst}
 use mathlib.Core.Logic.{_⊎_, inl, inr}
 use mathlib.Core.List.{List, [], _∷_}
-use Prim.Native.Nat.{ℕ, zero, suc, _+_, _*_, _/_, _%_, _^_, _<_}
-use native.Mathlib.Nat.{mod-lt, le-refl, zero-mul, one-mul, zero-add}
+use Prim.Native.Nat.{ℕ, zero, suc, _+_, _*_, _/_, _%_, _^_, _<_, suc-le-suc, min}
+use native.Mathlib.Nat.{mod-lt, le-refl, zero-lt-suc, zero-mul, one-mul, zero-add}
 use native.Mathlib.Numerals.{one-add}
 use native.Mathlib.Omega.{arith}
-use lib.Dec.{T, eqb}
-use lib.ListN.{getD}
+use lib.Dec.{T, eqb, ltb, ltb→lt}
+use lib.ListN.{length, getD}
 use lib.Arith.{lt-one}
 use lib.Pow.{pow-pos, shr-lt, split}
-use lib.Bits.{bitXor, bitAnd, differ, xor-self, xor-zero-r, xor-shr, xor-mod, xor-shifted}
-use Rattle.words.specs.Word.{bit, picked, combined}
+use lib.Bits.{bitXor, bitAnd, differ, xor-self, xor-lt, xor-zero-r, xor-shr, xor-mod, xor-shifted}
+use Rattle.words.specs.Word.{bit, picked, combined, sumTo}
 use Rattle.words.specs.Fields.{fields}
-use Rattle.words.proofs.Bit.{by-bit, bit-lt, bit-xor}
-use Rattle.words.proofs.Test.{allBelow, same-below}
+use Rattle.words.proofs.Bit.{by-bit, bit-lt, bit-zero, bit-xor, bit-xor-sum}
+use Rattle.words.proofs.Test.{allBelow, same-below, every, both-left, both-right}
 use Rattle.words.proofs.Xor.{xor-swap, xor-shl, xor-mask}
 
 infixl 60 _⊕_
@@ -78,6 +78,20 @@ xor-sum f g a b = ap₂ bitXor (f .sum a b) (g .sum a b) ∙ xor-swap (f .at a) 
 abbrev pub _⊕_ : Linear → Linear → Linear
 f ⊕ g = record { at = λ x. bitXor (f .at x) (g .at x); sum = xor-sum f g }
 
+-- the exclusive or of n, whose bits are parities
+abbrev pub total : ℕ → (ℕ → Linear) → Linear
+total zero f = none
+total (suc n) f = f 0 ⊕ total n (λ i. f (suc i))
+
+pub bit-total : (n : ℕ) (f : ℕ → Linear) (x c : ℕ) → bit (total n f .at x) c ≡ sumTo n (λ i. bit (f i .at x) c) % 2
+bit-total zero f x c = bit-zero c
+bit-total (suc n) f x c =
+    omega (
+      arith,
+      bit-xor-sum (f 0 .at x) (total n (λ i. f (suc i)) .at x) c,
+      bit-total n (λ i. f (suc i)) x c,
+    )
+
 pub field-sum : (k n i a b : ℕ) → getD (fields k n (bitXor a b)) i 0 ≡ bitXor (getD (fields k n a) i 0) (getD (fields k n b) i 0)
 field-sum k zero i a b = refl
 field-sum k (suc n) zero a b = xor-mod a b k
@@ -102,6 +116,36 @@ combined-differ (h ∷ hs) f g e p q r =
     ap₂ bitXor (ap (λ (x : ℕ). picked x h) (r 0) ∙ differ-picked (f 0) (g 0) h (p 0) (q 0))
     (combined-differ hs (λ i. f (suc i)) (λ i. g (suc i)) (λ i. e (suc i)) (λ i. p (suc i)) (λ i. q (suc i)) (λ i. r (suc i)))
     ∙ xor-swap (picked (f 0) h) (picked (g 0) h) (combined hs (λ i. f (suc i))) (combined hs (λ i. g (suc i)))
+
+pub combined-eq : (hs : List ℕ) (f g : ℕ → ℕ) → ((i : ℕ) → i < length hs → f i ≡ g i) → combined hs f ≡ combined hs g
+combined-eq [] f g e = refl
+combined-eq (h ∷ hs) f g e =
+    ap₂ (λ (x y : ℕ). bitXor (picked x h) y) (e 0 (zero-lt-suc (length hs)))
+    (combined-eq hs (λ i. f (suc i)) (λ i. g (suc i)) (λ i l. e (suc i) (suc-le-suc l)))
+
+-- each digit of what is combined is a parity
+pub digit-combined : (hs : List ℕ) (f : ℕ → ℕ) → ((i : ℕ) → f i < 2) → (j : ℕ)
+    → bit (combined hs f) j ≡ sumTo (length hs) (λ i. min (f i) (bit (getD hs i 0) j)) % 2
+digit-combined [] f p j = bit-zero j
+digit-combined (h ∷ hs) f p j =
+    omega (
+      arith,
+      bit-xor-sum (picked (f 0) h) (combined hs (λ i. f (suc i))) j,
+      by-bit (λ (x : ℕ). bit (picked x h) j ≡ min x (bit h j)) (bit-zero j ∙ omega arith) (omega (arith, bit-lt h j)) (f 0) (p 0),
+      digit-combined hs (λ i. f (suc i)) (λ i. p (suc i)) j,
+    )
+
+-- entries of k bits combine to k bits
+pub combined-lt : (k : ℕ) (hs : List ℕ) → T (every (λ h. ltb h (2 ^ k)) hs) → (f : ℕ → ℕ) → combined hs f < 2 ^ k
+combined-lt k [] t f = pow-pos k
+combined-lt k (h ∷ hs) t f =
+    xor-lt k (picked (f 0) h) (combined hs (λ i. f (suc i)))
+    (one (f 0) (ltb→lt h (2 ^ k) (both-left (ltb h (2 ^ k)) (every (λ h. ltb h (2 ^ k)) hs) t)))
+    (combined-lt k hs (both-right (ltb h (2 ^ k)) (every (λ h. ltb h (2 ^ k)) hs) t) (λ i. f (suc i)))
+  where
+    one : (x : ℕ) → h < 2 ^ k → picked x h < 2 ^ k
+    one zero l = pow-pos k
+    one (suc x) l = l
 
 abbrev pub combination : List ℕ → Linear
 combination hs = record {

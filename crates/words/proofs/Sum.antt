@@ -2,12 +2,13 @@
 use mathlib.Core.Path.{_≡_, refl, sym, ap, ap₂, _∙_}
 use mathlib.Core.List.{List, [], _∷_}
 use Prim.Native.Nat.{ℕ, zero, suc, _+_, _*_, _/_, _%_, _^_, _≤_, _<_, suc-le-suc}
-use native.Mathlib.Nat.{zero-lt-suc, zero-mul, add-mul, mul-assoc, div-one, pow-suc}
+use native.Mathlib.Nat.{zero-lt-suc, le-of-suc-le-suc, zero-mul, add-mul, mul-assoc, div-one, pow-suc}
 use native.Mathlib.Omega.{arith}
 use lib.Arith.{lt-one}
+use lib.Bits.{differ}
 use lib.Dec.{T, ltb, ltb→lt}
 use Rattle.words.specs.Word.{bit, sumTo, sumOver, IsParity}
-use Rattle.words.proofs.Bit.{bit-half, half-lt}
+use Rattle.words.proofs.Bit.{differ-sum, bit-half, half-lt}
 use Rattle.words.proofs.Test.{every, both-left, both-right, below-suc}
 
 pub sum-eq : (n : ℕ) (f g : ℕ → ℕ) → ((i : ℕ) → i < n → f i ≡ g i) → sumTo n f ≡ sumTo n g
@@ -25,6 +26,23 @@ sum-zero zero f e i h = absurd (omega arith)
 sum-zero (suc n) f e zero h = omega arith
 sum-zero (suc n) f e (suc i) h = sum-zero n (λ i. f (suc i)) (omega arith) i (omega arith)
 
+-- and a sum of none but 0 is 0
+pub sum-none : (n : ℕ) (f : ℕ → ℕ) → ((i : ℕ) → i < n → f i ≡ 0) → sumTo n f ≡ 0
+sum-none zero f h = refl
+sum-none (suc n) f h = omega (arith, h 0 (zero-lt-suc n), sum-none n (λ i. f (suc i)) (λ i l. h (suc i) (suc-le-suc l)))
+
+pub sum-add : (n : ℕ) (f g : ℕ → ℕ) → sumTo n (λ i. f i + g i) ≡ sumTo n f + sumTo n g
+sum-add zero f g = refl
+sum-add (suc n) f g = omega (arith, sum-add n (λ i. f (suc i)) (λ i. g (suc i)))
+
+-- terms in order whose sums are not in that order are the same
+pub sum-tight : (n : ℕ) (f g : ℕ → ℕ) → ((i : ℕ) → i < n → f i ≤ g i) → sumTo n g ≤ sumTo n f → (i : ℕ) → i < n → f i ≡ g i
+sum-tight zero f g h e i l = absurd (omega arith)
+sum-tight (suc n) f g h e zero l =
+    omega (arith, h 0 l, sum-le n (λ i. f (suc i)) (λ i. g (suc i)) (λ i l. h (suc i) (suc-le-suc l)))
+sum-tight (suc n) f g h e (suc i) l =
+    sum-tight n (λ i. f (suc i)) (λ i. g (suc i)) (λ i l. h (suc i) (suc-le-suc l)) (omega (arith, h 0 (zero-lt-suc n))) i (le-of-suc-le-suc l)
+
 pub sum-scale : (n m : ℕ) (f : ℕ → ℕ) → sumTo n (λ i. f i * m) ≡ sumTo n f * m
 sum-scale zero m f = sym (zero-mul m)
 sum-scale (suc n) m f = ap (λ (x : ℕ). f 0 * m + x) (sum-scale n m (λ i. f (suc i))) ∙ sym (add-mul (f 0) (sumTo n (λ i. f (suc i))) m)
@@ -40,6 +58,13 @@ sum-bits (suc n) w h =
     ∙ omega arith
 
 -- ---- parities
+
+-- the parity of a difference taken place by place is that of both sums together
+pub sum-differ : (n : ℕ) (f g : ℕ → ℕ) → ((i : ℕ) → f i < 2) → ((i : ℕ) → g i < 2)
+    → sumTo n (λ i. differ (f i) (g i)) % 2 ≡ (sumTo n f + sumTo n g) % 2
+sum-differ zero f g p q = refl
+sum-differ (suc n) f g p q =
+    omega (arith, differ-sum (f 0) (g 0) (p 0) (q 0), sum-differ n (λ i. f (suc i)) (λ i. g (suc i)) (λ i. p (suc i)) (λ i. q (suc i)))
 
 -- the parity of a sum that is taken place by place
 parity-sum : (f g h : ℕ → ℕ) → ((i : ℕ) → h i ≡ (f i + g i) % 2) → (is : List ℕ)
