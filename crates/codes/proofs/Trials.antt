@@ -33,6 +33,13 @@ module _ (fix : ℕ → ℕ) where
       go true e = inl (leb-true t (dist x (fix x)) e, ap (λ (b : Bool). choose b 1 0) e, ap (λ (b : Bool). choose b 0 (unlike c (fix x))) e)
       go false e = inr (leb-false t (dist x (fix x)) e, ap (λ (b : Bool). choose b 1 0) e, ap (λ (b : Bool). choose b 0 (unlike c (fix x))) e)
 
+  pub aside-lt : (t x : ℕ) → aside fix t x < 2
+  aside-lt t x = go (trial-cases t x 0)
+    where
+      go : Trial t x 0 → aside fix t x < 2
+      go (inl p) = omega arith
+      go (inr p) = omega arith
+
   -- what trial t pays for one row
   abbrev cost : ℕ → ℕ → ℕ → ℕ
   cost t x c = 2 * wrong fix t x c + aside fix t x

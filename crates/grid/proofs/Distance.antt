@@ -18,17 +18,8 @@ use Rattle.codes.specs.Promises.{Distance}
 use Rattle.codes.proofs.Address.{ByEntries, distance4}
 use Rattle.codes.proofs.Trials.{every-product}
 use Rattle.grid.specs.Code.{codeword, gridCode}
-use Rattle.grid.specs.Steps.{rowEntries, colEntries}
+use Rattle.grid.specs.Steps.{rowEntries, colEntries, sides, rowOf}
 use Rattle.grid.proofs.Codeword.{grids, is-codeword, one-value}
-
--- ---- the row code and the column code
-
-abbrev pub sides : Sides
-sides = record { side = 8; Row = ByEntries rowEntries; Col = ByEntries colEntries }
-
--- row r of a grid
-abbrev pub rowOf : ℕ → ℕ → ℕ
-rowOf g r = getD (fields 8 8 g) r 0
 
 rows-in : (d : ℕ) → d < 2 ^ 16 → (r : ℕ) → r < 8 → ByEntries rowEntries (bit (rowOf (codeword d) r))
 unfolding codeword

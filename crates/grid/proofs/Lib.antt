@@ -1,7 +1,7 @@
 pub mod Codeword
 pub mod Distance
-pub mod Rows
-pub mod Trial
+pub mod Repair
+pub mod Solving
 pub mod Decoder
 pub mod Promises
 pub mod Verdicts

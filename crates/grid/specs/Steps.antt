@@ -7,6 +7,8 @@ use Prim.Native.Nat.{ℕ, _+_, _*_, _%_, _^_, _≤_, _<_, min}
 use lib.Bits.{bitAnd, bitXor, differ}
 use lib.ListN.{getD}
 use Rattle.words.specs.Word.{bit, dist, combined, sumTo}
+use Rattle.words.specs.Fields.{fields}
+use Rattle.codes.specs.Product.{Sides, aside, Candidate}
 use Rattle.grid.specs.Equations.{inColumn}
 use Rattle.grid.specs.Code.{codeword}
 
@@ -17,6 +19,13 @@ rowEntries = 7 ∷ 11 ∷ 15 ∷ 13 ∷ 3 ∷ 5 ∷ 9 ∷ 1 ∷ []
 
 abbrev pub colEntries : List ℕ
 colEntries = 7 ∷ 11 ∷ 13 ∷ 15 ∷ 3 ∷ 5 ∷ 9 ∷ 1 ∷ []
+
+abbrev pub sides : Sides
+sides = record { side = 8; Row = λ f. combined rowEntries f ≡ 0; Col = λ f. combined colEntries f ≡ 0 }
+
+-- row r of a grid
+abbrev pub rowOf : ℕ → ℕ → ℕ
+rowOf g r = getD (fields 8 8 g) r 0
 
 -- ---- a row
 
@@ -30,9 +39,13 @@ flipsAt =
 unfoldable pub fixed : ℕ → ℕ
 fixed x = bitXor x (getD flipsAt (combined rowEntries (bit x)) 0)
 
--- what a trial needs of the row x: the data places of the row put right, and above them the number of its flips
+-- what a trial needs of the row x: the data places of the row put right, and above them whether each trial sets it aside
 unfoldable pub mendedRow : ℕ → ℕ
-mendedRow x = fixed x % 16 + 16 * dist x (fixed x)
+mendedRow x = fixed x % 16 + 16 * aside fixed 1 x + 32 * aside fixed 2 x
+
+-- rows has what a trial needs of each row of the word
+abbrev pub Mended : ℕ → ℕ → Type 0
+Mended word rows = (r : ℕ) → rowOf rows r ≡ mendedRow (rowOf word r)
 
 -- ---- a trial
 
@@ -65,10 +78,10 @@ pub record Reached (word number flips : ℕ) : Type 0 where
   pub is : number ≡ codeword value
   pub places : flips ≡ dist word number
 
--- .. and it is the codeword that agrees with the rows in the data columns, if there is one.
-pub record Tried (word rows aside number flips : ℕ) : Type 0 where
+-- .. and it is the candidate of trial t, if there is one.
+pub record Tried (t word number flips : ℕ) : Type 0 where
   pub reached : Reached word number flips
-  pub all : (d : ℕ) → d < 2 ^ 16 → ((c : ℕ) → c < 4 → Agrees rows aside (codeword d) c) → number ≡ codeword d
+  pub all : (d : ℕ) → d < 2 ^ 16 → Candidate sides fixed t (rowOf word) (rowOf (codeword d)) → number ≡ codeword d
 
 -- .. and it is within 7 places of the word if any codeword is.
 pub record Nearby (word number flips : ℕ) : Type 0 where

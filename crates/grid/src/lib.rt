@@ -18,18 +18,16 @@
 // specs/Promises.antt what is proved of the code. As a number a grid has row r in byte r, lowest
 // byte first, and place c of a row in bit c.
 ghost use mathlib.Core.Path.{_≡_};
-ghost use mathlib.Core.List.{map};
 ghost use Prim.Native.Nat.{ℕ, _+_, _*_, _/_, _%_, _^_, _<_};
 ghost use lib.Bits.{bitAnd};
-ghost use lib.ListN.{getD};
 ghost use Rattle.words.specs.Fields.{joined};
 ghost use Rattle.codes.specs.Promises.{States};
 ghost use Rattle.grid.specs.Code.{codeword, gridCode};
 ghost use Rattle.grid.specs.Calls.{Encoded, Numbered, Parted, Decoded};
-ghost use Rattle.grid.specs.Steps.{mendedRow, Asides, Tried, Nearby};
+ghost use Rattle.grid.specs.Steps.{Mended, Tried, Nearby};
 
 mod columns;
-mod row;
+mod rows;
 
 pub struct Grid {
     pub rows: [u8; 8],
@@ -118,11 +116,13 @@ fn data_of(places: u32) -> u16
     ((pairs ^ (pairs >> 8)) & 0xFFFF) as u16
 }
 
-// A trial: the rows put right column by column, and the places of the codeword that is reached, counted.
-fn tried(word: u64, rows: u64, aside: u64) -> Near
-    requires { ⌜ Asides aside ⌝ }
-    ensures { λ r. ⌜ Tried word rows aside (r .number) (r .flips) ⌝ }
+// A trial on the rows put right, where those are set aside that need `least` flips or more: the columns
+// put right, and the places of the codeword that is reached, counted.
+fn trial(word: u64, rows: u64, least: u32) -> Near
+    requires { ⌜ Mended word rows × (0 < least) × (least < 3) ⌝ }
+    ensures { λ r. ⌜ Tried least word (r .number) (r .flips) ⌝ }
 {
+    let aside = (rows >> (3 + least)) & 0x0101_0101_0101_0101;
     let number = completed(places_of(columns::solved(rows, aside)));
     Near {
         number,
@@ -138,23 +138,10 @@ fn byte(w: u64) -> u8
 }
 
 // The number whose lowest byte is `row`, with `above` over it.
-fn with_row(above: u64, row: u64) -> u64
-    ensures { λ r. ⌜ (above < 2 ^ 56 → row < 2 ^ 8 → r ≡ above * 2 ^ 8 + row) ⌝ }
+fn with_row(above: u64, row: u8) -> u64
+    ensures { λ r. ⌜ (above < 2 ^ 56 → r ≡ above * 2 ^ 8 + row) ⌝ }
 {
-    (above << 8) | row
-}
-
-// The number that has `rows`, each a byte, from the lowest byte on.
-fn stacked(rows: [u64; 8]) -> u64
-    ensures { λ r. ⌜ (((i : ℕ) → getD rows i 0 < 2 ^ 8) → r ≡ joined 8 rows) ⌝ }
-{
-    let a = with_row(rows[7], rows[6]);
-    let b = with_row(a, rows[5]);
-    let c = with_row(b, rows[4]);
-    let d = with_row(c, rows[3]);
-    let e = with_row(d, rows[2]);
-    let f = with_row(e, rows[1]);
-    with_row(f, rows[0])
+    (above << 8) | (row as u64)
 }
 
 impl Grid {
@@ -177,16 +164,13 @@ impl Grid {
         ensures { λ r. ⌜ Numbered (self .rows) r ⌝ }
     {
         let rows = self.rows;
-        stacked([
-            rows[0] as u64,
-            rows[1] as u64,
-            rows[2] as u64,
-            rows[3] as u64,
-            rows[4] as u64,
-            rows[5] as u64,
-            rows[6] as u64,
-            rows[7] as u64,
-        ])
+        let a = with_row(rows[7] as u64, rows[6]);
+        let b = with_row(a, rows[5]);
+        let c = with_row(b, rows[4]);
+        let d = with_row(c, rows[3]);
+        let e = with_row(d, rows[2]);
+        let f = with_row(e, rows[1]);
+        with_row(f, rows[0])
     }
 
     // The grid that a number is.
@@ -214,36 +198,19 @@ impl Grid {
         }
     }
 
-    // Each row put right, one after the other: in byte r what a trial needs of row r.
-    fn mended_rows(self) -> u64
-        ensures { λ r. ⌜ r ≡ joined 8 (map mendedRow (self .rows)) ⌝ }
-    {
-        let rows = self.rows;
-        stacked([
-            row::mended(rows[0]),
-            row::mended(rows[1]),
-            row::mended(rows[2]),
-            row::mended(rows[3]),
-            row::mended(rows[4]),
-            row::mended(rows[5]),
-            row::mended(rows[6]),
-            row::mended(rows[7]),
-        ])
-    }
-
-    // The codeword of the first trial if it is near enough, and that of the second if not. Trial one
-    // sets the rows aside that took two flips, trial two those that took one or two.
+    // What the first trial reaches if it is near enough, and what the second does if not: the first sets
+    // the rows aside that need two flips, the second those that need one or two.
     fn nearest(self, word: u64) -> Near
         requires { ⌜ word ≡ joined 8 (self .rows) ⌝ }
         ensures { λ r. ⌜ Nearby word (r .number) (r .flips) ⌝ }
     {
-        let rows = self.mended_rows();
-        let two = rows >> 5;
-        let first = tried(word, rows, two & 0x0101_0101_0101_0101);
+        let read = self.rows;
+        let rows = rows::mended(read);
+        let first = trial(word, rows, 2);
         if first.flips <= Grid::RADIUS {
             return first;
         }
-        tried(word, rows, ((rows >> 4) ^ two) & 0x0101_0101_0101_0101)
+        trial(word, rows, 1)
     }
 
     // The verdict on a grid that was read, whatever was done to it.

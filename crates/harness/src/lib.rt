@@ -53,16 +53,15 @@ pub extern "C" fn grid_distance() -> u32
     Grid::DISTANCE
 }
 
-// The answer on the grid with the number `w`: document 01's number in byte 3, flips in byte 2, data in
-// the two lowest, and the number of the repaired grid in `repaired`.
+// The answer on the grid with the number `w`: the data, the flips from bit 16 on, document 01's number
+// from bit 24 on; the number of the repaired grid in `repaired`.
 #[no_mangle]
-pub extern "C" fn grid_decode(w: u64, repaired: &mut u64) -> u32
-{
-    let a = Grid::of_number(w).decode();
-    let grid = a.grid;
+pub extern "C" fn grid_decode(w: u64, repaired: &mut u64) -> u32 {
+    let answer = Grid::of_number(w).decode();
+    let grid = answer.grid;
     *repaired = grid.number();
-    let v = a.verdict;
-    match v {
+    let verdict = answer.verdict;
+    match verdict {
         Verdict::Clean(data) => data as u32,
         Verdict::Mended { data, flips } => (data as u32) | (flips << 16),
         Verdict::Lost => 0x0100_0000,

@@ -5,9 +5,9 @@ use mathlib.Core.List.{List, [], _∷_}
 use Prim.Native.Nat.{ℕ, zero, suc, _+_, _*_, _/_, _%_, _^_, _<_, suc-le-suc}
 use native.Mathlib.Nat.{mod-lt, zero-lt-suc, le-of-suc-le-suc, not-suc-le-zero, suc-mul, add-comm, zero-mul, mod-eq-of-lt}
 use native.Mathlib.Omega.{arith}
-use lib.ListN.{length, getD}
-use lib.Arith.{lt-one}
-use lib.Pow.{pow-pos, shl-lt, shr-lt, split, high, low}
+use lib.ListN.{length, getD, drop}
+use lib.Arith.{lt-one, digits-lt}
+use lib.Pow.{pow-pos, pow-add, shl-lt, shr-lt, split, high, low}
 use lib.Bits.{bitXor, bitOr, or-shifted, xor-block, xor-lt}
 use lib.Count.{ones, ones-cat}
 use Rattle.words.specs.Word.{bit, dist, sumTo}
@@ -43,6 +43,17 @@ fields-joined k (x ∷ xs) h =
     ap₂ {C = List ℕ} (λ (a b : ℕ). a ∷ fields k (length xs) b) (low (joined k xs) k (h 0)) (high (joined k xs) k (h 0))
     ∙ ap {B = List ℕ} (λ l. x ∷ l) (fields-joined k xs (λ i. h (suc i)))
 
+pub joined-lt : (k : ℕ) (xs : List ℕ) → Below k xs → joined k xs < 2 ^ (length xs * k)
+joined-lt k [] h = subst (λ (m : ℕ). 0 < 2 ^ m) (sym (zero-mul k)) (pow-pos 0)
+joined-lt k (x ∷ xs) h =
+    subst (λ (m : ℕ). joined k xs * 2 ^ k + x < m) (sym (ap (λ (m : ℕ). 2 ^ m) (suc-mul (length xs) k) ∙ pow-add 2 (length xs * k) k))
+    (digits-lt (joined-lt k xs (λ i. h (suc i))) (h 0))
+
+pub drop-below : (k n : ℕ) (xs : List ℕ) → Below k xs → Below k (drop n xs)
+drop-below k zero xs h = h
+drop-below k (suc n) [] h = h
+drop-below k (suc n) (x ∷ xs) h = drop-below k n xs (λ i. h (suc i))
+
 -- a list by its elements
 abbrev pub listed : ℕ → (ℕ → ℕ) → List ℕ
 listed zero f = []
@@ -54,11 +65,6 @@ listed-all (x ∷ xs) = ap {B = List ℕ} (λ l. x ∷ l) (listed-all xs)
 
 pub listed-getD : (n : ℕ) (xs : List ℕ) → length xs ≡ n → xs ≡ listed n (λ i. getD xs i 0)
 listed-getD n xs e = listed-all xs ∙ ap (λ (m : ℕ). listed m (λ i. getD xs i 0)) e
-
-pub listed-below : (k n : ℕ) (f : ℕ → ℕ) → ((i : ℕ) → f i < 2 ^ k) → Below k (listed n f)
-listed-below k zero f h i = pow-pos k
-listed-below k (suc n) f h zero = h 0
-listed-below k (suc n) f h (suc i) = listed-below k n (λ i. f (suc i)) (λ i. h (suc i)) i
 
 -- ---- a word put together from two parts, by a shift and an or
 

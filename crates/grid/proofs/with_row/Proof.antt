@@ -4,7 +4,7 @@ use Rattle.grid.proofs.with_row.Statement.{statement}
 use Rattle.grid.proofs.with_row.Tie as tie
 
 returns : tie.Need-returns
-returns c h l = side-by-side 56 8 h l
+returns c h = side-by-side 56 8 h (c .fits .row .fits)
 
 pub with-row-spec : {M : Type 1} → statement M
 with-row-spec = tie.close (tie.spec returns)

@@ -1,34 +1,42 @@
 -- `grid::Grid::nearest` meets its contract: two trials are enough. Assumes nothing.
-use mathlib.Core.List.{List}
-use Prim.Native.Nat.{ℕ, _/_, _^_}
-use lib.Bits.{bitXor}
+use mathlib.Core.Path.{_≡_, sym, subst}
+use mathlib.Core.List.{List, map}
+use Prim.Native.Nat.{ℕ}
 use lib.Dec.{lit<}
 use lib.ListN.{length, getD}
 use mir.Syntax.{w8}
 use mir.Val.{Fits}
-use Rattle.words.proofs.Bit.{and-twice}
-use Rattle.grid.proofs.Decoder.{both-trials}
+use Rattle.words.specs.Fields.{joined}
+use Rattle.words.proofs.Fields.{Below}
+use Rattle.grid.specs.Steps.{mendedRow, Mended}
+use Rattle.grid.proofs.Decoder.{made-row, both-trials}
 use borrow.Author.Needs.{needs}
 use Rattle.grid.proofs.Grid.nearest.Statement.{statement}
 use Rattle.grid.proofs.Grid.nearest.Tie as tie
 
-tried-requires : tie.Need-tried-requires
-tried-requires c κs = and-twice 64 (c .mended-rows .result / 2 ^ 5) 0x0101_0101_0101_0101 (lit< tt)
+is-mended : (rows : List ℕ) (word x : ℕ) → length rows ≡ 8 → Below 8 rows → word ≡ joined 8 rows → x ≡ joined 8 (map mendedRow rows) → Mended word x
+is-mended rows word x n small e s =
+    subst (λ (w : ℕ). Mended w x) (sym e) (subst (Mended (joined 8 rows)) (sym s) (made-row rows n small))
 
-tried-requires-2 : tie.Need-tried-requires-2
-tried-requires-2 c κs =
-    let x : ℕ = c .before .before .before .mended-rows .result in
-    and-twice 64 (bitXor (x / 2 ^ 4) (x / 2 ^ 5)) 0x0101_0101_0101_0101 (lit< tt)
+trial-requires : tie.Need-trial-requires
+trial-requires c κs =
+    let rows : List ℕ = c .before .before .args .self .rows in
+    let small : (i : ℕ) → Fits w8 (getD rows i 0) = λ i. search needs in
+    (is-mended rows (c .before .before .args .word) (c .mended .result) (search needs) (λ i. small i .fits) (c .before .before .pre) (c .mended .ensures), lit< tt, lit< tt)
+
+trial-requires-2 : tie.Need-trial-requires-2
+trial-requires-2 c κs =
+    let m = c .before .before .before in
+    let rows : List ℕ = m .before .before .args .self .rows in
+    let small : (i : ℕ) → Fits w8 (getD rows i 0) = λ i. search needs in
+    (is-mended rows (m .before .before .args .word) (m .mended .result) (search needs) (λ i. small i .fits) (m .before .before .pre) (m .mended .ensures), lit< tt, lit< tt)
 
 returns-2 : tie.Need-returns-2
 returns-2 c =
-    let s = c .before .before .before .before .before in
-    let rows : List ℕ = s .args .self .rows in
-    let small : (i : ℕ) → Fits w8 (getD rows i 0) = λ i. search needs in
-    let first = c .before .before .before .tried in
-    both-trials rows (search needs) (λ i. small i .fits) (s .args .word) (c .before .before .before .before .mended-rows .result)
-    (first .result .number) (first .result .flips) (c .tried2 .result .number) (c .tried2 .result .flips) (s .pre) (s .fits .word .fits)
-    (c .before .before .before .before .mended-rows .ensures) (first .ensures) (c .before .if1 .left) (c .tried2 .ensures)
+    let s = c .before .before .before .before .before .before in
+    let first = c .before .before .before .trial in
+    both-trials (s .args .word) (first .result .number) (first .result .flips) (c .trial2 .result .number) (c .trial2 .result .flips)
+    (s .fits .word .fits) (first .ensures) (c .before .if1 .left) (c .trial2 .ensures)
 
 pub nearest-spec : {M : Type 1} → statement M
-nearest-spec = tie.close (tie.spec (λ c κs. search needs) tried-requires (λ c. search needs) tried-requires-2 returns-2)
+nearest-spec = tie.close (tie.spec (λ c κs. search needs) trial-requires (λ c. search needs) trial-requires-2 returns-2)

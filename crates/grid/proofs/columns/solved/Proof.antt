@@ -1,5 +1,5 @@
 -- `grid::columns::solved` meets its contract: by the step of `codes`, in each column. Assumes nothing.
-use Rattle.grid.proofs.Trial.{filled-fits, solved-one, solved-several}
+use Rattle.grid.proofs.Solving.{filled-fits, solved-one, solved-several}
 use borrow.Author.Needs.{needs}
 use Rattle.grid.proofs.columns.solved.Statement.{statement}
 use Rattle.grid.proofs.columns.solved.Tie as tie

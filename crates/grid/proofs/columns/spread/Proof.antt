@@ -8,7 +8,7 @@ use Rattle.words.proofs.Linear.{Linear, same, _⊕_, shr, shl, then, field, tot
 use Rattle.words.proofs.Sum.{sum-eq}
 use Rattle.words.proofs.Test.{allBelow, at-below}
 use Rattle.grid.specs.Equations.{inColumn}
-use Rattle.grid.proofs.Distance.{rowOf}
+use Rattle.grid.specs.Steps.{rowOf}
 use Rattle.grid.proofs.columns.spread.Statement.{statement}
 use Rattle.grid.proofs.columns.spread.Tie as tie
 

@@ -17,9 +17,8 @@ use Rattle.words.proofs.Sum.{sum-le, sum-eq, sum-tight}
 use Rattle.words.proofs.Test.{allBelow, at-below, allPairs, same-below, same-pairs}
 use Rattle.codes.proofs.Column.{only, lone, named, odd, at, inside, outside, Perfect, is-odd, one-right, several-right}
 use Rattle.grid.specs.Equations.{inColumn}
-use Rattle.grid.specs.Steps.{colEntries, Asides, OneRow, Agrees, Solved}
+use Rattle.grid.specs.Steps.{colEntries, rowOf, Asides, OneRow, Agrees, Solved}
 use Rattle.grid.proofs.Codeword.{eighth}
-use Rattle.grid.proofs.Distance.{rowOf}
 
 perfect : Perfect colEntries 8
 perfect = record {
