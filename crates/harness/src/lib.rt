@@ -53,18 +53,36 @@ pub extern "C" fn grid_distance() -> u32
     Grid::DISTANCE
 }
 
-// The answer on the grid with the number `w`: the data, the flips from bit 16 on, document 01's number
-// from bit 24 on; the number of the repaired grid in `repaired`.
-#[no_mangle]
-pub extern "C" fn grid_decode(w: u64, repaired: &mut u64) -> u32 {
-    let answer = Grid::of_number(w).decode();
-    let grid = answer.grid;
-    *repaired = grid.number();
-    let verdict = answer.verdict;
+// An answer as one number: the data, the flips from bit 16 on, document 01's number from bit 24 on.
+fn packed(verdict: Verdict) -> u64
+{
     match verdict {
-        Verdict::Clean(data) => data as u32,
-        Verdict::Mended { data, flips } => (data as u32) | (flips << 16),
+        Verdict::Clean(data) => data as u64,
+        Verdict::Mended { data, flips } => (data as u64) | ((flips as u64) << 16),
         Verdict::Lost => 0x0100_0000,
         Verdict::Tie => 0x0500_0000,
+    }
+}
+
+// The answers on the grids with the numbers `words`: each verdict as one number, and the number of the
+// grid beside it. Three slices of one length, or nothing is done.
+#[no_mangle]
+pub extern "C" fn grid_decode(words: &[u64], verdicts: &mut [u64], repaired: &mut [u64])
+{
+    let n = words.len();
+    if verdicts.len() != n {
+        return;
+    }
+    if repaired.len() != n {
+        return;
+    }
+    let mut i: usize = 0;
+    while i < n {
+        let answer = Grid::of_number(words[i]).decode();
+        let grid = answer.grid;
+        let verdict = answer.verdict;
+        verdicts[i] = packed(verdict);
+        repaired[i] = grid.number();
+        i += 1;
     }
 }
