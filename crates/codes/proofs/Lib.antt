@@ -1,5 +1,6 @@
 pub mod Verdict
 pub mod Promises
+pub mod Tally
 pub mod Product
 pub mod Trials
 pub mod Address

@@ -54,8 +54,7 @@ pub extern "C" fn grid_distance() -> u32
 }
 
 // An answer as one number: the data, the flips from bit 16 on, document 01's number from bit 24 on.
-fn packed(verdict: Verdict) -> u64
-{
+fn packed(verdict: Verdict) -> u64 {
     match verdict {
         Verdict::Clean(data) => data as u64,
         Verdict::Mended { data, flips } => (data as u64) | ((flips as u64) << 16),
@@ -67,8 +66,7 @@ fn packed(verdict: Verdict) -> u64
 // The answers on the grids with the numbers `words`: each verdict as one number, and the number of the
 // grid beside it. Three slices of one length, or nothing is done.
 #[no_mangle]
-pub extern "C" fn grid_decode(words: &[u64], verdicts: &mut [u64], repaired: &mut [u64])
-{
+pub extern "C" fn grid_decode(words: &[u64], verdicts: &mut [u64], repaired: &mut [u64]) {
     let n = words.len();
     if verdicts.len() != n {
         return;

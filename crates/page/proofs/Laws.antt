@@ -1,0 +1,85 @@
+-- A turn of the scrub's loop, over plain values: one grid more is put right and counted. Assumes nothing.
+use mathlib.Core.Path.{_≡_, sym, ap, _∙_, subst}
+use mathlib.Core.List.{List}
+use Prim.Native.Nat.{ℕ, _+_, _^_, _≤_, _<_}
+use native.Mathlib.Omega.{arith}
+use lib.ListN.{length, getD, set, take}
+use lib.Seq.{length-take-le}
+use Rattle.words.specs.Fields.{fields, joined}
+use Rattle.words.proofs.Fields.{joined-fields}
+use Rattle.words.proofs.Lists.{partly, partly-at, partly-step}
+use Rattle.codes.specs.Verdict.{Verdict, clean, mended, lost, tie, flipsOf, verdict, scrubbed}
+use Rattle.codes.specs.Tally.{isClean, isMended, isLost, sumBy}
+use Rattle.codes.proofs.Tally.{sum-bound, sum-step, scrubbed-lt, few-flips}
+use Rattle.grid.specs.Answer.{means}
+use Rattle.grid.specs.Calls.{Decoded}
+use Rattle.grid.specs.Code.{gridCode}
+use Rattle.grid.specs.declared.Answer.{Answer}
+use Rattle.grid.proofs.Promises as grid
+use Rattle.page.specs.Calls.{tallyOf}
+use Rattle.page.specs.Steps.{counted, Roomy}
+use Rattle.page.specs.declared.Tally.{Tally}
+
+-- ---- one grid
+
+-- the grid of a number, decoded, and its number again
+pub decoded-verdict : (w : ℕ) (rows : List ℕ) (a : Answer) → w < 2 ^ 64 → rows ≡ fields 8 8 w → Decoded rows a → means (a .verdict) ≡ verdict gridCode w
+decoded-verdict w rows a l e d = d .answer ∙ ap (verdict gridCode) (ap (joined 8) e ∙ joined-fields 8 8 w l)
+
+pub decoded-number : (w n : ℕ) (rows : List ℕ) (a : Answer) → w < 2 ^ 64 → rows ≡ fields 8 8 w → Decoded rows a → n ≡ joined 8 (a .grid .rows)
+    → n ≡ scrubbed gridCode w
+decoded-number w n rows a l e d p =
+    p ∙ ap (joined 8) (d .repaired ∙ ap (λ (x : ℕ). fields 8 8 (scrubbed gridCode x)) (ap (joined 8) e ∙ joined-fields 8 8 w l))
+    ∙ joined-fields 8 8 (scrubbed gridCode w) (scrubbed-lt gridCode (grid.promised .verdicts) (2 ^ 64) (grid.promised .constants .fits) w l)
+
+-- ---- the bounds
+
+is-one : (v : Verdict) → (isClean v ≤ 1) × (isMended v ≤ 1) × (isLost v ≤ 1)
+is-one (clean d) = (omega arith, omega arith, omega arith)
+is-one (mended d n) = (omega arith, omega arith, omega arith)
+is-one lost = (omega arith, omega arith, omega arith)
+is-one tie = (omega arith, omega arith, omega arith)
+
+-- ---- a turn
+
+module _ (page now : List ℕ) (i w : ℕ) (t : Tally) (inside : i < length page) (few : length page ≤ 512)
+    (so-far : now ≡ partly (scrubbed gridCode) i page) (counts : t ≡ tallyOf (take i page)) where
+  read : getD now i 0 ≡ getD page i 0
+  read = ap (λ (l : List ℕ). getD l i 0) so-far ∙ partly-at (scrubbed gridCode) page i inside
+
+  pub turn-page : w ≡ scrubbed gridCode (getD now i 0) → set now i w ≡ partly (scrubbed gridCode) (i + 1) page
+  turn-page e = rw (e, read, so-far) (partly-step (scrubbed gridCode) page i inside)
+
+  module _ (v : Verdict) (e : v ≡ verdict gridCode (getD now i 0)) where
+    judged : v ≡ verdict gridCode (getD page i 0)
+    judged = e ∙ ap (verdict gridCode) read
+
+    pub turn-tally : counted t v ≡ tallyOf (take (i + 1) page)
+    turn-tally =
+        rw (counts, judged)
+        (simp (
+          sum-step gridCode isClean page i inside,
+          sum-step gridCode isMended page i inside,
+          sum-step gridCode isLost page i inside,
+          sum-step gridCode flipsOf page i inside,
+          length-take-le (i + 1) page (omega arith),
+          length-take-le i page (omega arith),
+        ))
+
+    pub turn-roomy : Roomy t v
+    turn-roomy =
+        rw (counts, judged)
+        (let u : Verdict = verdict gridCode (getD page i 0) in
+        let n : length (take i page) ≡ i = length-take-le i page (omega arith) in
+        record {
+          grids = omega arith;
+          clean = omega (arith, is-one u, sum-bound gridCode isClean 1 (λ w. is-one (verdict gridCode w) .0) (take i page));
+          mended = omega (arith, is-one u, sum-bound gridCode isMended 1 (λ w. is-one (verdict gridCode w) .1) (take i page));
+          lost = omega (arith, is-one u, sum-bound gridCode isLost 1 (λ w. is-one (verdict gridCode w) .2) (take i page));
+          flips =
+              omega (
+                arith,
+                few-flips gridCode (grid.promised .verdicts) (getD page i 0),
+                sum-bound gridCode flipsOf 7 (few-flips gridCode (grid.promised .verdicts)) (take i page),
+              );
+        })

@@ -1,0 +1,88 @@
+// A page of up to 512 grids, each a 64-bit number, scrubbed where it stands: mended grids are replaced
+// by their codewords, and clean, lost and tied ones stay as they are.
+//
+// specs/Calls.antt says what a scrub answers and leaves, specs/Promises.antt what is proved of it.
+ghost use mathlib.Core.Path.{_≡_};
+ghost use Prim.Native.Nat.{_+_, _<_, _^_};
+ghost use Rattle.grid.specs.Answer.{means};
+ghost use Rattle.page.specs.Calls.{Scrubbed};
+ghost use Rattle.page.specs.Steps.{none, counted, Roomy};
+use grid::Grid;
+use grid::Verdict;
+
+// The five numbers of a scrub. Ties count as lost, and flips is the sum over mended grids.
+pub struct Tally {
+    pub grids: u32,
+    pub clean: u32,
+    pub mended: u32,
+    pub lost: u32,
+    pub flips: u32,
+}
+
+// A scrub that was done, or refused for the page's length.
+pub enum Outcome {
+    Done(Tally),
+    Length,
+}
+
+impl Tally {
+    // The most grids of a page.
+    pub const MOST: usize = 512;
+
+    fn none() -> Tally
+        ensures { λ r. ⌜ r ≡ none ⌝ }
+    {
+        Tally {
+            grids: 0,
+            clean: 0,
+            mended: 0,
+            lost: 0,
+            flips: 0,
+        }
+    }
+
+    // One more grid.
+    fn counted(self, verdict: Verdict) -> Tally
+        requires { ⌜ Roomy self (means verdict) ⌝ }
+        ensures { λ r. ⌜ r ≡ counted self (means verdict) ⌝ }
+    {
+        let mut next = self;
+        next.grids = next.grids + 1;
+        match verdict {
+            Verdict::Clean(_) => {
+                next.clean = next.clean + 1;
+            }
+            Verdict::Mended { data: _, flips } => {
+                next.mended = next.mended + 1;
+                next.flips = next.flips + flips;
+            }
+            Verdict::Lost => {
+                next.lost = next.lost + 1;
+            }
+            Verdict::Tie => {
+                next.lost = next.lost + 1;
+            }
+        }
+        next
+    }
+}
+
+// Scrubs a page of 0 to 512 grids. A longer one is refused, and nothing is written.
+pub fn scrub(page: &mut [u64]) -> Outcome
+    ensures { λ r. ⌜ Scrubbed (now (page .entry)) r (now (page .exit)) ⌝ }
+{
+    if page.len() > Tally::MOST {
+        return Outcome::Length;
+    }
+    let mut tally = Tally::none();
+    let mut i: usize = 0;
+    while i < page.len() {
+        let answer = Grid::of_number(page[i]).decode();
+        let verdict = answer.verdict;
+        let grid = answer.grid;
+        page[i] = grid.number();
+        tally = tally.counted(verdict);
+        i += 1;
+    }
+    Outcome::Done(tally)
+}
