@@ -7,7 +7,7 @@ use native.Mathlib.Decide.{ℕ-discrete}
 use native.Mathlib.Omega.{arith}
 use lib.Bits.{bitXor}
 use lib.Count.{ones}
-use Rattle.words.proofs.Dist.{dist-sym, dist-triangle, dist-self, dist-flips}
+use Rattle.words.proofs.Dist.{eq-of-dist, dist-sym, dist-triangle, dist-self, dist-flips}
 use Rattle.codes.specs.Verdict.{Code, Verdict, clean, mended, lost, tie, off, IsVerdict, answered, verdict}
 use Rattle.codes.specs.Promises.{Distance, Hands, Demand3, Promises, OneMoreIsLost, EveryCode}
 use Rattle.codes.proofs.Verdict.{Answer, answered-is, verdict-is, one-verdict, settled}
@@ -87,3 +87,9 @@ module _ (C : Code) (D : ℕ) (far : Distance C D) where
 
 pub every-code : (C : Code) → EveryCode C
 every-code C = record { settled = settled C; promises = promises C; one-more-is-lost = one-more-is-lost C }
+
+-- a clean word is the codeword of its data
+pub clean-word : (C : Code) → Promises C → (w d : ℕ) → verdict C w ≡ clean d → (d < C .values) × (w ≡ C .encode d)
+clean-word C P w d e =
+    let h : Hands (verdict C w) d 0 = subst (λ v. Hands v d 0) (sym e) (refl, refl) in
+    (P .demand3 w .within d 0 h .0, eq-of-dist w (C .encode d) (sym (P .demand3 w .flips d 0 h)))

@@ -1,26 +1,28 @@
 -- The three ways in which the decoder answers, over plain values: clean, mended, lost. Assumes nothing.
 use mathlib.Core.Path.{_≡_, refl, sym, ap, ap₂, _∙_, subst}
 use mathlib.Core.Logic.{_≢_}
+use mathlib.Core.Bool.{true}
 use mathlib.Core.List.{List}
 use Prim.Native.Nat.{ℕ, zero, suc, _^_, _≤_, _<_}
 use native.Mathlib.Decide.{decLe}
 use native.Mathlib.Omega.{arith}
 use lib.Bits.{bitAnd}
-use lib.Dec.{lit<}
+use lib.Dec.{eqb, lit<}
 use lib.ListN.{length}
+use borrow.Author.Tests.{eq-eqb, ne-eqb, eqb-true}
 use Rattle.words.specs.Word.{dist}
 use Rattle.words.specs.Fields.{fields, joined}
 use Rattle.words.proofs.Bit.{and-twice}
-use Rattle.words.proofs.Dist.{eq-of-dist}
 use Rattle.words.proofs.Fields.{Below}
-use Rattle.codes.specs.Verdict.{clean, mended, lost, answered, verdict, repaired}
-use Rattle.codes.proofs.Promises.{none-near, found}
+use Rattle.codes.specs.Verdict.{Verdict, clean, mended, lost, tie, answered, verdict, repaired, scrubbed}
+use Rattle.codes.specs.Tally.{isClean}
+use Rattle.codes.proofs.Promises.{none-near, found, clean-word}
 use Rattle.grid.specs.Code.{codeword, gridCode}
-use Rattle.grid.specs.Calls.{Decoded}
+use Rattle.grid.specs.Calls.{Judged, Decoded}
 use Rattle.grid.specs.Steps.{Nearby}
 use Rattle.grid.specs.declared.Verdict.the-variants.{Clean, Mended, Lost}
 use Rattle.grid.proofs.Distance.{distance}
-use Rattle.grid.proofs.Decoder.{gather, gather-back}
+use Rattle.grid.proofs.Decoder.{gather, gather-lt, gathered, gather-back}
 use Rattle.grid.proofs.Promises.{promised}
 
 -- the data places tell the data
@@ -31,49 +33,101 @@ some-flips : (d n : ℕ) → n ≢ 0 → answered d n ≡ mended d n
 some-flips d zero h = absurd (h refl)
 some-flips d (suc n) h = refl
 
-module _ (rows : List ℕ) (eight : length rows ≡ 8) (small : Below 8 rows) (word places number : ℕ) (is : word ≡ joined 8 rows)
-    (taken : places ≡ bitAnd word 0x0F0F_0F0F)
-    (completed : (d : ℕ) → d < 2 ^ 16 → places ≡ bitAnd (codeword d) 0x0F0F_0F0F → number ≡ codeword d) where
+-- places of a word, and the data that was taken from them
+module _ (w places e : ℕ) (below : e < 2 ^ 16) (taken : places ≡ bitAnd w 0x0F0F_0F0F)
+    (read : bitAnd places 0x0F0F_0F0F ≡ places → bitAnd (codeword e) 0x0F0F_0F0F ≡ places) where
+  taken-data : (d : ℕ) → d < 2 ^ 16 → w ≡ codeword d → e ≡ d
+  taken-data d l s =
+      same-data e d below l
+      (read (ap (λ (x : ℕ). bitAnd x 0x0F0F_0F0F) taken ∙ and-twice 32 w 0x0F0F_0F0F (lit< tt) ∙ sym taken)
+      ∙ taken ∙ ap (λ (x : ℕ). bitAnd x 0x0F0F_0F0F) s)
+
+module _ (rows : List ℕ) (eight : length rows ≡ 8) (small : Below 8 rows) (word : ℕ) (is : word ≡ joined 8 rows) where
   as-read : fields 8 8 (joined 8 rows) ≡ rows
   as-read = promised .back-and-there rows eight small
 
-  -- the word is the grid of its data places
-  pub is-clean : (data₁ : ℕ) → data₁ < 2 ^ 16 → (bitAnd places 0x0F0F_0F0F ≡ places → bitAnd (codeword data₁) 0x0F0F_0F0F ≡ places) → number ≡ word
+  -- ---- clean
+
+  pub judged : (places number : ℕ) → places ≡ bitAnd word 0x0F0F_0F0F
+      → ((d : ℕ) → d < 2 ^ 16 → places ≡ bitAnd (codeword d) 0x0F0F_0F0F → number ≡ codeword d) → word < 2 ^ 64 → Judged rows (eqb number word)
+  judged places number taken completed fits = record { answer = go (verdict gridCode (joined 8 rows)) refl }
+    where
+      -- a word that is the grid of its data places is clean
+      none : {v : Verdict} → verdict gridCode (joined 8 rows) ≡ v → isClean v ≡ 0 → number ≡ word → ⊥
+      none e z s =
+          let d : ℕ = gather .at (bitAnd word 0x0F0F_0F0F) in
+          let l : d < 2 ^ 16 = gather-lt (bitAnd word 0x0F0F_0F0F) in
+          let w : joined 8 rows ≡ codeword d = sym is ∙ sym s ∙ completed d l (taken ∙ sym (gathered word fits)) in
+          absurd (omega (arith, z, ap isClean (sym e ∙ ap (verdict gridCode) w ∙ promised .verdicts .unharmed d l)))
+
+      go : (v : Verdict) → verdict gridCode (joined 8 rows) ≡ v → eqb number word ≡ eqb (isClean v) 1
+      go (clean d) e =
+          let (l, s) = clean-word gridCode (promised .verdicts) (joined 8 rows) d e in
+          let w : word ≡ codeword d = is ∙ s in
+          eq-eqb number word (completed d l (taken ∙ ap (λ (x : ℕ). bitAnd x 0x0F0F_0F0F) w) ∙ sym w)
+      go (mended d n) e = ne-eqb number word (none e refl)
+      go lost e = ne-eqb number word (none e refl)
+      go tie e = ne-eqb number word (none e refl)
+
+  pub is-clean : (places data₁ : ℕ) → data₁ < 2 ^ 16 → places ≡ bitAnd word 0x0F0F_0F0F
+      → (bitAnd places 0x0F0F_0F0F ≡ places → bitAnd (codeword data₁) 0x0F0F_0F0F ≡ places) → Judged rows true
       → Decoded rows (record { verdict = Clean data₁; grid = record { rows = rows } })
-  is-clean d l h e =
-      let p : places ≡ bitAnd (codeword d) 0x0F0F_0F0F =
-      sym (h (ap (λ (x : ℕ). bitAnd x 0x0F0F_0F0F) taken ∙ and-twice 32 word 0x0F0F_0F0F (lit< tt) ∙ sym taken)) in
-      let w : joined 8 rows ≡ codeword d = sym is ∙ sym e ∙ completed d l p in
-      let v : verdict gridCode (joined 8 rows) ≡ clean d = ap (verdict gridCode) w ∙ promised .verdicts .unharmed d l in
-      record { answer = sym v; repaired = sym as-read ∙ ap (fields 8 8) (w ∙ sym (ap (repaired gridCode (joined 8 rows)) v)) }
+  is-clean places e l taken read j = go (verdict gridCode (joined 8 rows)) refl
+    where
+      -- the answer was yes
+      yes-clean : {v : Verdict} → verdict gridCode (joined 8 rows) ≡ v → isClean v ≡ 1
+      yes-clean p = sym (ap isClean p) ∙ eqb-true (isClean (verdict gridCode (joined 8 rows))) 1 (sym (j .answer))
+
+      go : (v : Verdict) → verdict gridCode (joined 8 rows) ≡ v → Decoded rows (record { verdict = Clean e; grid = record { rows = rows } })
+      go (clean d) p =
+          let (b, w) = clean-word gridCode (promised .verdicts) (joined 8 rows) d p in
+          record {
+            answer = ap clean (taken-data word places e l taken read d b (is ∙ w)) ∙ sym p;
+            repaired = sym as-read ∙ ap (fields 8 8) (w ∙ sym (ap (repaired gridCode (joined 8 rows)) p));
+          }
+      go (mended d n) p = absurd (omega (arith, yes-clean p))
+      go lost p = absurd (omega (arith, yes-clean p))
+      go tie p = absurd (omega (arith, yes-clean p))
+
+  -- ---- by the trials
 
   module _ (near flips : ℕ) (nearby : Nearby word near flips) where
-    -- a codeword was reached, and it is near
-    pub is-mended : (data₁ there : ℕ) → data₁ < 2 ^ 16 → there ≡ bitAnd near 0x0F0F_0F0F
-        → (bitAnd there 0x0F0F_0F0F ≡ there → bitAnd (codeword data₁) 0x0F0F_0F0F ≡ there) → number ≢ word → flips ≤ 7
-        → (out : List ℕ) → out ≡ fields 8 8 near → Decoded rows (record { verdict = Mended data₁ flips; grid = record { rows = out } })
-    is-mended e there l t h ne r out o =
-        let d : ℕ = nearby .reached .value in
-        let below : d < 2 ^ 16 = nearby .reached .below in
-        let off : flips ≡ dist (joined 8 rows) (codeword d) = nearby .reached .places ∙ ap₂ dist is (nearby .reached .is) in
-        let some : flips ≢ 0 =
-        λ z.
-        let w : word ≡ codeword d = is ∙ eq-of-dist (joined 8 rows) (codeword d) (sym off ∙ z) in
-        ne (completed d below (taken ∙ ap (λ (x : ℕ). bitAnd x 0x0F0F_0F0F) w) ∙ sym w) in
-        let v : verdict gridCode (joined 8 rows) ≡ mended d flips =
-        found gridCode 16 distance (lit< tt) (joined 8 rows) d below (subst (λ (x : ℕ). x ≤ 7) off r)
-        ∙ ap (answered d) (sym off) ∙ some-flips d flips some in
-        let there-is : bitAnd (codeword e) 0x0F0F_0F0F ≡ bitAnd (codeword d) 0x0F0F_0F0F =
-        h (ap (λ (x : ℕ). bitAnd x 0x0F0F_0F0F) t ∙ and-twice 32 near 0x0F0F_0F0F (lit< tt) ∙ sym t)
-        ∙ t ∙ ap (λ (x : ℕ). bitAnd x 0x0F0F_0F0F) (nearby .reached .is) in
-        record {
-          answer = ap (λ (x : ℕ). mended x flips) (same-data e d l below there-is) ∙ sym v;
-          repaired = o ∙ ap (fields 8 8) (nearby .reached .is ∙ sym (ap (repaired gridCode (joined 8 rows)) v));
-        }
+    off : flips ≡ dist (joined 8 rows) (codeword (nearby .reached .value))
+    off = nearby .reached .places ∙ ap₂ dist is (nearby .reached .is)
+
+    module _ (places e : ℕ) (l : e < 2 ^ 16) (taken : places ≡ bitAnd near 0x0F0F_0F0F)
+        (read : bitAnd places 0x0F0F_0F0F ≡ places → bitAnd (codeword e) 0x0F0F_0F0F ≡ places) (r : flips ≤ 7) (out : List ℕ)
+        (o : out ≡ fields 8 8 near) where
+      answered-is : verdict gridCode (joined 8 rows) ≡ answered e flips
+      answered-is =
+          let d : ℕ = nearby .reached .value in
+          found gridCode 16 distance (lit< tt) (joined 8 rows) d (nearby .reached .below) (subst (λ (x : ℕ). x ≤ 7) off r)
+          ∙ ap₂ answered (sym (taken-data near places e l taken read d (nearby .reached .below) (nearby .reached .is))) (sym off)
+
+      -- whether clean or mended, what is written is the codeword
+      written : (v : Verdict) → verdict gridCode (joined 8 rows) ≡ v → repaired gridCode (joined 8 rows) v ≡ codeword e
+          → out ≡ fields 8 8 (scrubbed gridCode (joined 8 rows))
+      written v p q =
+          o
+          ∙ ap (fields 8 8)
+          (nearby .reached .is
+          ∙ sym (ap codeword (taken-data near places e l taken read (nearby .reached .value) (nearby .reached .below) (nearby .reached .is)))
+          ∙ sym q ∙ sym (ap (repaired gridCode (joined 8 rows)) p))
+
+      pub mends-clean : flips ≡ 0 → Decoded rows (record { verdict = Clean e; grid = record { rows = out } })
+      mends-clean z =
+          let v : verdict gridCode (joined 8 rows) ≡ clean e = answered-is ∙ ap (answered e) z in
+          record { answer = sym v; repaired = written (clean e) v refl }
+
+      pub mends : flips ≢ 0 → Decoded rows (record { verdict = Mended e flips; grid = record { rows = out } })
+      mends ne =
+          let v : verdict gridCode (joined 8 rows) ≡ mended e flips = answered-is ∙ some-flips e flips ne in
+          record { answer = sym v; repaired = written (mended e flips) v refl }
 
     pub is-lost : 7 < flips → Decoded rows (record { verdict = Lost; grid = record { rows = rows } })
     is-lost far =
-        let v : verdict gridCode (joined 8 rows) ≡ lost = none-near gridCode (joined 8 rows) (λ d l. each d l (decLe 8 (dist (joined 8 rows) (codeword d)))) in
+        let v : verdict gridCode (joined 8 rows) ≡ lost =
+        none-near gridCode (joined 8 rows) (λ d l. each d l (decLe 8 (dist (joined 8 rows) (codeword d)))) in
         record { answer = sym v; repaired = sym as-read ∙ sym (ap (λ x. fields 8 8 (repaired gridCode (joined 8 rows) x)) v) }
       where
         each : (d : ℕ) → d < 2 ^ 16 → Dec (8 ≤ dist (joined 8 rows) (codeword d)) → 7 < dist (joined 8 rows) (codeword d)

@@ -1,10 +1,13 @@
 -- What each call of the crate promises: one record a call, which determines the answer. Assumes nothing.
 use mathlib.Core.Path.{_≡_}
+use mathlib.Core.Bool.{Bool}
 use mathlib.Core.List.{List}
 use Prim.Native.Nat.{ℕ}
+use lib.Dec.{eqb}
 use Rattle.words.specs.Fields.{fields, joined}
 use Rattle.grid.specs.Equations.{Codeword}
 use Rattle.codes.specs.Verdict.{verdict, scrubbed}
+use Rattle.codes.specs.Tally.{isClean}
 use Rattle.grid.specs.Code.{codeword, gridCode}
 use Rattle.grid.specs.Answer.{means}
 use Rattle.grid.specs.declared.Answer.{Answer}
@@ -22,7 +25,11 @@ pub record Numbered (rows : List ℕ) (w : ℕ) : Type 0 where
 pub record Parted (w : ℕ) (rows : List ℕ) : Type 0 where
   pub answer : rows ≡ fields 8 8 w
 
--- `Grid::decode`: document 01's verdict on the grid, and beside it the codeword, or on refusal the grid as read.
+-- `Grid::is_clean`: whether the verdict on the grid is clean.
+pub record Judged (rows : List ℕ) (r : Bool) : Type 0 where
+  pub answer : r ≡ eqb (isClean (verdict gridCode (joined 8 rows))) 1
+
+-- `Grid::decode` and `Grid::mend`: document 01's verdict on the grid, and beside it the codeword, or on refusal the grid as read.
 pub record Decoded (rows : List ℕ) (r : Answer) : Type 0 where
   pub answer : means (r .verdict) ≡ verdict gridCode (joined 8 rows)
   pub repaired : r .grid .rows ≡ fields 8 8 (scrubbed gridCode (joined 8 rows))

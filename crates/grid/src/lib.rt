@@ -23,7 +23,7 @@ ghost use lib.Bits.{bitAnd};
 ghost use Rattle.words.specs.Fields.{joined};
 ghost use Rattle.codes.specs.Promises.{States};
 ghost use Rattle.grid.specs.Code.{codeword, gridCode};
-ghost use Rattle.grid.specs.Calls.{Encoded, Numbered, Parted, Decoded};
+ghost use Rattle.grid.specs.Calls.{Encoded, Numbered, Parted, Judged, Decoded};
 ghost use Rattle.grid.specs.Steps.{Mended, Tried, Nearby};
 
 mod columns;
@@ -213,32 +213,50 @@ impl Grid {
         trial(word, rows, 1)
     }
 
-    // The verdict on a grid that was read, whatever was done to it.
-    pub fn decode(self) -> Answer
-        ensures { λ r. ⌜ Decoded (self .rows) r ⌝ }
+    // Whether a grid that was read is a codeword.
+    pub fn is_clean(self) -> bool
+        ensures { λ r. ⌜ Judged (self .rows) r ⌝ }
     {
         let word = self.number();
-        let places = places_of(word);
-        if completed(places) == word {
+        completed(places_of(word)) == word
+    }
+
+    // The verdict on a grid that was read, whatever was done to it, by the trials.
+    pub fn mend(self) -> Answer
+        ensures { λ r. ⌜ Decoded (self .rows) r ⌝ }
+    {
+        let near = self.nearest(self.number());
+        let flips = near.flips;
+        if Grid::RADIUS < flips {
             return Answer {
-                verdict: Verdict::Clean(data_of(places)),
+                verdict: Verdict::Lost,
                 grid: self,
             };
         }
-        let near = self.nearest(word);
-        let flips = near.flips;
-        if flips <= Grid::RADIUS {
+        let data = data_of(places_of(near.number));
+        let grid = Grid::of_number(near.number);
+        if flips == 0 {
             return Answer {
-                verdict: Verdict::Mended {
-                    data: data_of(places_of(near.number)),
-                    flips,
-                },
-                grid: Grid::of_number(near.number),
+                verdict: Verdict::Clean(data),
+                grid,
             };
         }
         Answer {
-            verdict: Verdict::Lost,
-            grid: self,
+            verdict: Verdict::Mended { data, flips },
+            grid,
         }
+    }
+
+    // The same, and quicker where the grid is clean.
+    pub fn decode(self) -> Answer
+        ensures { λ r. ⌜ Decoded (self .rows) r ⌝ }
+    {
+        if self.is_clean() {
+            return Answer {
+                verdict: Verdict::Clean(data_of(places_of(self.number()))),
+                grid: self,
+            };
+        }
+        self.mend()
     }
 }
