@@ -1,18 +1,21 @@
 -- A turn of the scrub's loop, over plain values: one grid more is put right and counted. Assumes nothing.
-use mathlib.Core.Path.{_≡_, sym, ap, _∙_, subst}
+use mathlib.Core.Path.{_≡_, refl, sym, ap, _∙_}
+use mathlib.Core.Bool.{true}
 use mathlib.Core.List.{List}
 use Prim.Native.Nat.{ℕ, _+_, _^_, _≤_, _<_}
 use native.Mathlib.Omega.{arith}
 use lib.ListN.{length, getD, set, take}
 use lib.Seq.{length-take-le}
+use borrow.Author.Tests.{eqb-true}
 use Rattle.words.specs.Fields.{fields, joined}
 use Rattle.words.proofs.Fields.{joined-fields}
 use Rattle.words.proofs.Lists.{partly, partly-at, partly-step}
-use Rattle.codes.specs.Verdict.{Verdict, clean, mended, lost, tie, flipsOf, verdict, scrubbed}
+use Rattle.codes.specs.Verdict.{Verdict, clean, mended, lost, tie, flipsOf, verdict, repaired, scrubbed}
 use Rattle.codes.specs.Tally.{isClean, isMended, isLost, sumBy}
+use Rattle.codes.proofs.Promises.{clean-word}
 use Rattle.codes.proofs.Tally.{sum-bound, sum-step, scrubbed-lt, few-flips}
 use Rattle.grid.specs.Answer.{means}
-use Rattle.grid.specs.Calls.{Decoded}
+use Rattle.grid.specs.Calls.{Judged, Decoded}
 use Rattle.grid.specs.Code.{gridCode}
 use Rattle.grid.specs.declared.Answer.{Answer}
 use Rattle.grid.proofs.Promises as grid
@@ -32,6 +35,27 @@ decoded-number w n rows a l e d p =
     p ∙ ap (joined 8) (d .repaired ∙ ap (λ (x : ℕ). fields 8 8 (scrubbed gridCode x)) (ap (joined 8) e ∙ joined-fields 8 8 w l))
     ∙ joined-fields 8 8 (scrubbed gridCode w) (scrubbed-lt gridCode (grid.promised .verdicts) (2 ^ 64) (grid.promised .constants .fits) w l)
 
+-- a clean grid stays as it is, and counts as any clean one
+pub decoded-clean : (w : ℕ) (rows : List ℕ) → w < 2 ^ 64 → rows ≡ fields 8 8 w → Judged rows true
+    → (w ≡ scrubbed gridCode w)
+    × ((t : Tally) → (counted t (clean 0) ≡ counted t (verdict gridCode w)) × (Roomy t (verdict gridCode w) → Roomy t (clean 0)))
+decoded-clean w rows l e j = go (verdict gridCode w) refl
+  where
+    yes-clean : {v : Verdict} → verdict gridCode w ≡ v → isClean v ≡ 1
+    yes-clean p =
+        sym (ap isClean (ap (verdict gridCode) (ap (joined 8) e ∙ joined-fields 8 8 w l) ∙ p))
+        ∙ eqb-true (isClean (verdict gridCode (joined 8 rows))) 1 (sym (j .answer))
+
+    go : (v : Verdict) → verdict gridCode w ≡ v
+        → (w ≡ repaired gridCode w v) × ((t : Tally) → (counted t (clean 0) ≡ counted t v) × (Roomy t v → Roomy t (clean 0)))
+    go (clean d) p = (
+      clean-word gridCode (grid.promised .verdicts) w d p .1,
+      λ t. (refl, λ r. record { grids = r .grids; clean = r .clean; mended = r .mended; lost = r .lost; flips = r .flips }),
+    )
+    go (mended d n) p = absurd (omega (arith, yes-clean p))
+    go lost p = absurd (omega (arith, yes-clean p))
+    go tie p = absurd (omega (arith, yes-clean p))
+
 -- ---- the bounds
 
 is-one : (v : Verdict) → (isClean v ≤ 1) × (isMended v ≤ 1) × (isLost v ≤ 1)
@@ -42,44 +66,43 @@ is-one tie = (omega arith, omega arith, omega arith)
 
 -- ---- a turn
 
-module _ (page now : List ℕ) (i w : ℕ) (t : Tally) (inside : i < length page) (few : length page ≤ 512)
+module _ (page now : List ℕ) (i : ℕ) (t : Tally) (inside : i < length page) (few : length page ≤ 512)
     (so-far : now ≡ partly (scrubbed gridCode) i page) (counts : t ≡ tallyOf (take i page)) where
   read : getD now i 0 ≡ getD page i 0
   read = ap (λ (l : List ℕ). getD l i 0) so-far ∙ partly-at (scrubbed gridCode) page i inside
 
-  pub turn-page : w ≡ scrubbed gridCode (getD now i 0) → set now i w ≡ partly (scrubbed gridCode) (i + 1) page
-  turn-page e = rw (e, read, so-far) (partly-step (scrubbed gridCode) page i inside)
+  pub turn-page : (w : ℕ) → w ≡ scrubbed gridCode (getD now i 0) → set now i w ≡ partly (scrubbed gridCode) (i + 1) page
+  turn-page w e = rw (e, read, so-far) (partly-step (scrubbed gridCode) page i inside)
 
-  module _ (v : Verdict) (e : v ≡ verdict gridCode (getD now i 0)) where
-    judged : v ≡ verdict gridCode (getD page i 0)
-    judged = e ∙ ap (verdict gridCode) read
+  judged : verdict gridCode (getD now i 0) ≡ verdict gridCode (getD page i 0)
+  judged = ap (verdict gridCode) read
 
-    pub turn-tally : counted t v ≡ tallyOf (take (i + 1) page)
-    turn-tally =
-        rw (counts, judged)
-        (simp (
-          sum-step gridCode isClean page i inside,
-          sum-step gridCode isMended page i inside,
-          sum-step gridCode isLost page i inside,
-          sum-step gridCode flipsOf page i inside,
-          length-take-le (i + 1) page (omega arith),
-          length-take-le i page (omega arith),
-        ))
+  pub turn-tally : counted t (verdict gridCode (getD now i 0)) ≡ tallyOf (take (i + 1) page)
+  turn-tally =
+      rw (counts, judged)
+      (simp (
+        sum-step gridCode isClean page i inside,
+        sum-step gridCode isMended page i inside,
+        sum-step gridCode isLost page i inside,
+        sum-step gridCode flipsOf page i inside,
+        length-take-le (i + 1) page (omega arith),
+        length-take-le i page (omega arith),
+      ))
 
-    pub turn-roomy : Roomy t v
-    turn-roomy =
-        rw (counts, judged)
-        (let u : Verdict = verdict gridCode (getD page i 0) in
-        let n : length (take i page) ≡ i = length-take-le i page (omega arith) in
-        record {
-          grids = omega arith;
-          clean = omega (arith, is-one u, sum-bound gridCode isClean 1 (λ w. is-one (verdict gridCode w) .0) (take i page));
-          mended = omega (arith, is-one u, sum-bound gridCode isMended 1 (λ w. is-one (verdict gridCode w) .1) (take i page));
-          lost = omega (arith, is-one u, sum-bound gridCode isLost 1 (λ w. is-one (verdict gridCode w) .2) (take i page));
-          flips =
-              omega (
-                arith,
-                few-flips gridCode (grid.promised .verdicts) (getD page i 0),
-                sum-bound gridCode flipsOf 7 (few-flips gridCode (grid.promised .verdicts)) (take i page),
-              );
-        })
+  pub turn-roomy : Roomy t (verdict gridCode (getD now i 0))
+  turn-roomy =
+      rw (counts, judged)
+      (let u : Verdict = verdict gridCode (getD page i 0) in
+      let n : length (take i page) ≡ i = length-take-le i page (omega arith) in
+      record {
+        grids = omega arith;
+        clean = omega (arith, is-one u, sum-bound gridCode isClean 1 (λ w. is-one (verdict gridCode w) .0) (take i page));
+        mended = omega (arith, is-one u, sum-bound gridCode isMended 1 (λ w. is-one (verdict gridCode w) .1) (take i page));
+        lost = omega (arith, is-one u, sum-bound gridCode isLost 1 (λ w. is-one (verdict gridCode w) .2) (take i page));
+        flips =
+            omega (
+              arith,
+              few-flips gridCode (grid.promised .verdicts) (getD page i 0),
+              sum-bound gridCode flipsOf 7 (few-flips gridCode (grid.promised .verdicts)) (take i page),
+            );
+      })

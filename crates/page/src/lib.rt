@@ -4,7 +4,9 @@
 // specs/Calls.antt says what a scrub answers and leaves, specs/Promises.antt what is proved of it.
 ghost use mathlib.Core.Path.{_≡_};
 ghost use Prim.Native.Nat.{_+_, _<_, _^_};
+ghost use Rattle.codes.specs.Verdict.{verdict, scrubbed};
 ghost use Rattle.grid.specs.Answer.{means};
+ghost use Rattle.grid.specs.Code.{gridCode};
 ghost use Rattle.page.specs.Calls.{Scrubbed};
 ghost use Rattle.page.specs.Steps.{none, counted, Roomy};
 use grid::Grid;
@@ -25,6 +27,12 @@ pub enum Outcome {
     Length,
 }
 
+// A grid put right, and the tally with it.
+struct Step {
+    pub word: u64,
+    pub tally: Tally,
+}
+
 impl Tally {
     // The most grids of a page.
     pub const MOST: usize = 512;
@@ -41,7 +49,7 @@ impl Tally {
         }
     }
 
-    // One more grid.
+    // One more verdict.
     fn counted(self, verdict: Verdict) -> Tally
         requires { ⌜ Roomy self (means verdict) ⌝ }
         ensures { λ r. ⌜ r ≡ counted self (means verdict) ⌝ }
@@ -65,6 +73,27 @@ impl Tally {
         }
         next
     }
+
+    // One more grid, put right and counted. The data of a clean one is not asked for.
+    fn with_grid(self, word: u64) -> Step
+        requires { ⌜ Roomy self (verdict gridCode word) ⌝ }
+        ensures { λ r. ⌜ (r .word ≡ scrubbed gridCode word) × (r .tally ≡ counted self (verdict gridCode word)) ⌝ }
+    {
+        let grid = Grid::of_number(word);
+        if grid.is_clean() {
+            return Step {
+                word,
+                tally: self.counted(Verdict::Clean(0)),
+            };
+        }
+        let answer = grid.mend();
+        let verdict = answer.verdict;
+        let repaired = answer.grid;
+        Step {
+            word: repaired.number(),
+            tally: self.counted(verdict),
+        }
+    }
 }
 
 // Scrubs a page of 0 to 512 grids. A longer one is refused, and nothing is written.
@@ -77,11 +106,9 @@ pub fn scrub(page: &mut [u64]) -> Outcome
     let mut tally = Tally::none();
     let mut i: usize = 0;
     while i < page.len() {
-        let answer = Grid::of_number(page[i]).decode();
-        let verdict = answer.verdict;
-        let grid = answer.grid;
-        page[i] = grid.number();
-        tally = tally.counted(verdict);
+        let step = tally.with_grid(page[i]);
+        page[i] = step.word;
+        tally = step.tally;
         i += 1;
     }
     Outcome::Done(tally)

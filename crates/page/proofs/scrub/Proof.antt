@@ -1,9 +1,9 @@
 -- `page::scrub` meets its contract: grid after grid, by the laws of a turn. Assumes nothing.
-use mathlib.Core.Path.{_≡_, refl, sym, ap, _∙_}
+use mathlib.Core.Path.{_≡_, refl, ap, _∙_}
 use mathlib.Core.List.{List}
-use Prim.Native.Nat.{ℕ, _-_, _≤_, _<_, _^_}
+use Prim.Native.Nat.{ℕ, _-_, _≤_, _<_}
 use native.Mathlib.Omega.{arith}
-use lib.ListN.{length, getD, take, length-set}
+use lib.ListN.{length, take, length-set}
 use lib.Seq.{take-all}
 use borrow.Author.Tests.{le-leb, lt-leb}
 use denote.Ref.{now}
@@ -13,7 +13,7 @@ use Rattle.codes.specs.Tally.{sumBy}
 use Rattle.grid.specs.Code.{gridCode}
 use Rattle.page.specs.Calls.{tallyOf}
 use Rattle.page.specs.declared.Outcome.the-variants.{Done}
-use Rattle.page.proofs.Laws.{decoded-verdict, decoded-number, turn-page, turn-tally, turn-roomy}
+use Rattle.page.proofs.Laws.{turn-page, turn-tally, turn-roomy}
 use borrow.Author.Needs.{needs}
 use Rattle.page.proofs.scrub.Statement.{statement}
 use Rattle.page.proofs.scrub.Tie as tie
@@ -32,32 +32,21 @@ loop-holds : tie.Need-loop-holds Inv-loop μ-loop
 unfolding sumBy
 loop-holds c = (search needs, partly-none (scrubbed gridCode) _, c .none .ensures, refl)
 
-counted-requires : tie.Need-counted-requires Inv-loop μ-loop
-counted-requires c κs =
-    let l = c .before .before .before .before .before .before .loop in
-    let p : List ℕ = now (c .before .before .before .before .before .before .before .before .before .before .args .page) in
-    let fits : getD (l .page) (l .i) 0 < 2 ^ 64 = omega (arith, c .before .before .before .before .slice-known2 .given (l .i)) in
-    turn-roomy p (l .page) (l .i) 0 (l .tally) (omega arith) (omega arith) (l .inv .1) (l .inv .2) _
-    (decoded-verdict (getD (l .page) (l .i) 0) (c .before .before .before .of-number .result .rows) (c .before .before .decode .result)
-    fits (c .before .before .before .of-number .ensures .answer) (c .before .before .decode .ensures))
+with-grid-requires : tie.Need-with-grid-requires Inv-loop μ-loop
+with-grid-requires c κs =
+    let l = c .before .before .loop in
+    let p : List ℕ = now (c .before .before .before .before .before .before .args .page) in
+    turn-roomy p (l .page) (l .i) (l .tally) (omega arith) (omega arith) (l .inv .1) (l .inv .2)
 
 loop-again : tie.Need-loop-again Inv-loop μ-loop
 loop-again c =
-    let l = c .before .before .before .before .before .before .before .loop in
-    let p : List ℕ = now (c .before .before .before .before .before .before .before .before .before .before .before .args .page) in
-    let fits : getD (l .page) (l .i) 0 < 2 ^ 64 = omega (arith, c .before .before .before .before .before .slice-known2 .given (l .i)) in
-    let of-number = c .before .before .before .before .of-number in
-    let decode = c .before .before .before .decode in
+    let l = c .before .before .before .before .loop in
+    let p : List ℕ = now (c .before .before .before .before .before .before .before .before .args .page) in
     let few : length p ≤ 512 = omega arith in
     let more : l .i < length p = omega arith in (
       search needs,
-      turn-page p (l .page) (l .i) (c .before .number .result) (l .tally) more few (l .inv .1) (l .inv .2)
-          (decoded-number (getD (l .page) (l .i) 0) (c .before .number .result) (of-number .result .rows) (decode .result) fits
-          (of-number .ensures .answer) (decode .ensures) (c .before .number .ensures .answer)),
-      c .counted .ensures
-          ∙ turn-tally p (l .page) (l .i) 0 (l .tally) more few (l .inv .1) (l .inv .2) _
-          (decoded-verdict (getD (l .page) (l .i) 0) (of-number .result .rows) (decode .result) fits (of-number .ensures .answer)
-          (decode .ensures)),
+      turn-page p (l .page) (l .i) (l .tally) more few (l .inv .1) (l .inv .2) (c .before .with-grid .result .word) (c .before .with-grid .ensures .0),
+      c .before .with-grid .ensures .1 ∙ turn-tally p (l .page) (l .i) (l .tally) more few (l .inv .1) (l .inv .2),
       simp length-set (l .inv .3),
     )
 
@@ -78,6 +67,5 @@ returns-2 c =
 pub scrub-spec : {M : Type 1} → statement M
 scrub-spec =
     tie.close
-    (tie.spec Inv-loop μ-loop returns (λ c κs. search needs) loop-holds (λ c. search needs) (λ c. search needs) (λ c κs. search needs)
-    (λ c κs. search needs) (λ c κs. search needs) (λ c. search needs) (λ c. search needs) counted-requires (λ c. search needs)
-    (λ c. search needs) loop-again same-length returns-2)
+    (tie.spec Inv-loop μ-loop returns (λ c κs. search needs) loop-holds (λ c. search needs) (λ c. search needs) with-grid-requires
+    (λ c. search needs) (λ c. search needs) (λ c. search needs) (λ c. search needs) loop-again same-length returns-2)
