@@ -6,7 +6,6 @@ ghost use Rattle.words.specs.Fields.{fields};
 ghost use Rattle.grid.specs.Equations.{Codeword};
 use grid::Grid;
 use grid::Verdict;
-use page::Outcome;
 
 // The number of the grid of `value`.
 #[no_mangle]
@@ -83,26 +82,5 @@ pub extern "C" fn grid_decode(words: &[u64], verdicts: &mut [u64], repaired: &mu
         verdicts[i] = packed(verdict);
         repaired[i] = grid.number();
         i += 1;
-    }
-}
-
-// A page scrubbed, with the five numbers in `tally`, which has five places; document 01's number is
-// returned, and 255 where `tally` has another length: then nothing is done.
-#[no_mangle]
-pub extern "C" fn page_scrub(page: &mut [u64], tally: &mut [u32]) -> u32 {
-    if tally.len() != 5 {
-        return 255;
-    }
-    let outcome = page::scrub(page);
-    match outcome {
-        Outcome::Done(t) => {
-            tally[0] = t.grids;
-            tally[1] = t.clean;
-            tally[2] = t.mended;
-            tally[3] = t.lost;
-            tally[4] = t.flips;
-            0
-        }
-        Outcome::Length => 3,
     }
 }

@@ -1,9 +1,9 @@
--- `harness::page_scrub` is safe: `tally` has five places, and keeps them. Assumes nothing.
+-- `harness_page::page_scrub` is safe: `tally` has five places, and keeps them. Assumes nothing.
 use native.Mathlib.Omega.{arith}
 use lib.ListN.{length-set}
 use borrow.Author.Needs.{needs}
-use Rattle.harness.proofs.page_scrub.Statement.{statement}
-use Rattle.harness.proofs.page_scrub.Tie as tie
+use Rattle.harness_page.proofs.page_scrub.Statement.{statement}
+use Rattle.harness_page.proofs.page_scrub.Tie as tie
 
 slice-write-tally-2 : tie.Need-slice-write-tally-2
 slice-write-tally-2 c = simp length-set (omega arith)
