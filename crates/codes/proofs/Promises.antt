@@ -7,8 +7,9 @@ use native.Mathlib.Decide.{ℕ-discrete}
 use native.Mathlib.Omega.{arith}
 use lib.Bits.{bitXor}
 use lib.Count.{ones}
+use Rattle.words.specs.Word.{dist}
 use Rattle.words.proofs.Dist.{eq-of-dist, dist-sym, dist-triangle, dist-self, dist-flips}
-use Rattle.codes.specs.Verdict.{Code, Verdict, clean, mended, lost, tie, off, IsVerdict, answered, verdict}
+use Rattle.codes.specs.Verdict.{Code, Verdict, clean, mended, lost, tie, off, IsVerdict, answered, verdict, flipsOf, repaired, scrubbed}
 use Rattle.codes.specs.Promises.{Distance, Hands, Demand3, Promises, OneMoreIsLost, EveryCode}
 use Rattle.codes.proofs.Verdict.{Answer, answered-is, verdict-is, one-verdict, settled}
 
@@ -55,6 +56,15 @@ module _ (C : Code) (D : ℕ) (far : Distance C D) where
           flips = λ d n h. sym (out d n h .0 .at);
         }
 
+    changed : (w : ℕ) → flipsOf (verdict C w) ≡ dist w (scrubbed C w)
+    changed w = go (verdict C w) refl
+      where
+        go : (v : Verdict) → verdict C w ≡ v → flipsOf v ≡ dist w (repaired C w v)
+        go (clean d) e = demand3 w .flips d 0 (subst (λ v. Hands v d 0) (sym e) (refl, refl))
+        go (mended d n) e = demand3 w .flips d n (subst (λ v. Hands v d n) (sym e) (refl, refl))
+        go lost e = sym (dist-self w)
+        go tie e = sym (dist-self w)
+
     -- flips on a written word
     undone : (d p : ℕ) → d < C .values → ones p ≤ C .radius → verdict C (bitXor (C .encode d) p) ≡ answered d (ones p)
     undone d p v r =
@@ -70,6 +80,7 @@ module _ (C : Code) (D : ℕ) (far : Distance C D) where
     promises = record {
       settled = settled C;
       demand3 = demand3;
+      changed = changed;
       no-tie = λ w e. never-tie w (subst (IsVerdict C w) e (verdict-is C w));
       unharmed = unharmed;
       undone = undone;

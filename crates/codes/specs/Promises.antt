@@ -5,7 +5,7 @@ use Prim.Native.Nat.{ℕ, _+_, _*_, _^_, _≤_, _<_}
 use lib.Bits.{bitXor}
 use lib.Count.{ones}
 use Rattle.words.specs.Word.{dist}
-use Rattle.codes.specs.Verdict.{Code, Verdict, clean, mended, lost, tie, off, IsVerdict, answered, verdict}
+use Rattle.codes.specs.Verdict.{Code, Verdict, clean, mended, lost, tie, off, IsVerdict, answered, verdict, flipsOf, scrubbed}
 
 -- two different codewords differ in at least D places
 abbrev pub Distance : Code → ℕ → Type 0
@@ -39,6 +39,8 @@ pub record Promises (C : Code) : Type 0 where
   pub settled : (w : ℕ) → Settled C w
   pub demand3 : (w : ℕ) → Demand3 C w (verdict C w)
   pub no-tie : (w : ℕ) → verdict C w ≢ tie
+  -- the flips are the places in which the word put right differs from the word read
+  pub changed : (w : ℕ) → flipsOf (verdict C w) ≡ dist w (scrubbed C w)
   -- what was written and not flipped is clean, with the same data
   pub unharmed : (d : ℕ) → d < C .values → verdict C (C .encode d) ≡ clean d
   -- any pattern p of at most radius flips on a written word is undone, with the right data and count

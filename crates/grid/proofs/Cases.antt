@@ -1,29 +1,96 @@
 -- The worked numbers hold: one computed test over the list. Assumes nothing.
-use mathlib.Core.Path.{subst}
-use mathlib.Core.Bool.{Bool}
+use mathlib.Core.Path.{_≡_, sym, ap, _∙_, subst}
+use mathlib.Core.Bool.{Bool, false}
 use mathlib.Core.List.{List, [], _∷_}
-use Prim.Native.Nat.{_^_}
-use lib.Dec.{T, ltb, eqb, ltb→lt, eqb→eq}
+use Prim.Native.Nat.{ℕ, zero, suc, _^_, _≤_, _<_}
+use native.Mathlib.Omega.{arith}
+use lib.Bits.{bitXor}
+use lib.Count.{ones}
+use lib.Dec.{T, ltb, leb, eqb, ltb→lt, leb→le, eqb→eq, lit<}
+use Rattle.words.specs.Word.{dist, sumTo}
+use Rattle.words.proofs.Dist.{dist-sym}
+use Rattle.words.proofs.Fields.{dist-fields}
 use Rattle.words.proofs.Test.{both, both-left, both-right, every}
+use Rattle.words.proofs.Xor.{xor-cancel-l}
+use Rattle.codes.specs.Verdict.{Verdict, clean, mended, lost, tie, off, IsVerdict, answered, verdict}
+use Rattle.codes.proofs.Promises.{found}
 use Rattle.grid.specs.Equations.{Codeword}
-use Rattle.grid.specs.Code.{codeword}
-use Rattle.grid.specs.Cases.{Case, cases, Hold}
+use Rattle.grid.specs.Code.{codeword, gridCode}
+use Rattle.grid.specs.Cases.{Case, written, read, cases, Says, Hold}
+use Rattle.grid.specs.Steps.{rowOf}
 use Rattle.grid.proofs.Codeword.{is-codeword}
+use Rattle.grid.proofs.Distance.{codeword-lt, distance}
+use Rattle.grid.proofs.Promises.{promised}
+
+-- ---- what is computed
+
+-- the places in which a word differs from the grid of d, row by row
+apart : ℕ → ℕ → ℕ
+apart w d = sumTo 8 (λ r. dist (rowOf w r) (rowOf (codeword d) r))
+
+-- data, flips and word are in range, and the flips are the places counted
+near? : ℕ → ℕ → ℕ → Bool
+near? w d n = both (ltb w (2 ^ 64)) (both (ltb d (2 ^ 16)) (both (eqb (apart w d) n) (leb n 7)))
+
+-- a word eight places from a codeword is lost
+lost? : ℕ → Bool
+lost? w = both (ltb w (2 ^ 64)) (eqb (apart w 0) 8)
 
 right? : Case → Bool
-right? c = both (ltb (c .value) (2 ^ 16)) (eqb (codeword (c .value)) (c .grid))
+right? (written d g) = both (ltb d (2 ^ 16)) (eqb (codeword d) g)
+right? (read w (clean d)) = near? w d 0
+right? (read w (mended d zero)) = false
+right? (read w (mended d (suc n))) = near? w d (suc n)
+right? (read w lost) = lost? w
+right? (read w tie) = false
 
-right : (c : Case) → T (right? c) → Codeword (c .value) (c .grid)
+-- ---- and what follows
+
+-- the verdict has the sense of document 01
+has : (w : ℕ) (v : Verdict) → verdict gridCode w ≡ v → IsVerdict gridCode w v
+has w v e = subst (IsVerdict gridCode w) e (promised .verdicts .settled w .has)
+
+counted : (w d : ℕ) → w < 2 ^ 64 → d < 2 ^ 16 → off gridCode w d ≡ apart w d
+unfolding apart
+counted w d l h = dist-fields 8 8 w (codeword d) l (codeword-lt d h)
+
+near : (w d n : ℕ) → T (near? w d n) → verdict gridCode w ≡ answered d n
+unfolding near?
+near w d n t =
+    let l : w < 2 ^ 64 = ltb→lt w (2 ^ 64) (both-left (ltb w (2 ^ 64)) (both (ltb d (2 ^ 16)) (both (eqb (apart w d) n) (leb n 7))) t) in
+    let u : T (both (ltb d (2 ^ 16)) (both (eqb (apart w d) n) (leb n 7))) =
+    both-right (ltb w (2 ^ 64)) (both (ltb d (2 ^ 16)) (both (eqb (apart w d) n) (leb n 7))) t in
+    let h : d < 2 ^ 16 = ltb→lt d (2 ^ 16) (both-left (ltb d (2 ^ 16)) (both (eqb (apart w d) n) (leb n 7)) u) in
+    let v : T (both (eqb (apart w d) n) (leb n 7)) = both-right (ltb d (2 ^ 16)) (both (eqb (apart w d) n) (leb n 7)) u in
+    let e : off gridCode w d ≡ n = counted w d l h ∙ eqb→eq (apart w d) n (both-left (eqb (apart w d) n) (leb n 7) v) in
+    found gridCode 16 distance (lit< tt) w d h
+    (subst (λ (x : ℕ). x ≤ 7) (sym e) (leb→le n 7 (both-right (eqb (apart w d) n) (leb n 7) v)))
+    ∙ ap (answered d) e
+
+far : (w : ℕ) → T (lost? w) → verdict gridCode w ≡ lost
+unfolding lost? dist
+far w t =
+    let l : w < 2 ^ 64 = ltb→lt w (2 ^ 64) (both-left (ltb w (2 ^ 64)) (eqb (apart w 0) 8) t) in
+    let e : ones (bitXor (codeword 0) w) ≡ 8 =
+    dist-sym (codeword 0) w ∙ counted w 0 l (lit< tt) ∙ eqb→eq (apart w 0) 8 (both-right (ltb w (2 ^ 64)) (eqb (apart w 0) 8) t) in
+    ap (verdict gridCode) (sym (xor-cancel-l (codeword 0) w)) ∙ promised .eight-are-lost 0 (bitXor (codeword 0) w) (lit< tt) e
+
+right : (c : Case) → T (right? c) → Says c
 unfolding right?
-right c t =
-    subst (Codeword (c .value))
-    (eqb→eq (codeword (c .value)) (c .grid) (both-right (ltb (c .value) (2 ^ 16)) (eqb (codeword (c .value)) (c .grid)) t))
-    (is-codeword (c .value) (ltb→lt (c .value) (2 ^ 16) (both-left (ltb (c .value) (2 ^ 16)) (eqb (codeword (c .value)) (c .grid)) t)))
+right (written d g) t =
+    let h : d < 2 ^ 16 = ltb→lt d (2 ^ 16) (both-left (ltb d (2 ^ 16)) (eqb (codeword d) g) t) in
+    let e : codeword d ≡ g = eqb→eq (codeword d) g (both-right (ltb d (2 ^ 16)) (eqb (codeword d) g) t) in
+    (subst (Codeword d) e (is-codeword d h), has g (clean d) (ap (verdict gridCode) (sym e) ∙ promised .verdicts .unharmed d h))
+right (read w (clean d)) t = has w (clean d) (near w d 0 t)
+right (read w (mended d zero)) t = absurd t
+right (read w (mended d (suc n))) t = has w (mended d (suc n)) (near w d (suc n) t)
+right (read w lost) t = has w lost (far w t)
+right (read w tie) t = absurd t
 
 each : (cs : List Case) → T (every right? cs) → Hold cs
 each [] t = tt
 each (c ∷ cs) t = (right c (both-left (right? c) (every right? cs) t), each cs (both-right (right? c) (every right? cs) t))
 
 pub cases-hold : Hold cases
-unfolding codeword right?
+unfolding codeword right? near? lost? apart dist ones
 cases-hold = each cases tt

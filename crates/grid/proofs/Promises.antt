@@ -1,9 +1,11 @@
 -- What specs/Promises.antt says of the grid holds. Assumes nothing.
-use mathlib.Core.Path.{_≡_, refl, sym, ap, _∙_}
+use mathlib.Core.Path.{_≡_, refl, sym, ap, _∙_, subst}
+use mathlib.Core.Logic.{_⊎_, inl, inr}
 use mathlib.Core.List.{List}
-use Prim.Native.Nat.{ℕ, _*_, _^_, _≤_, _<_}
+use Prim.Native.Nat.{ℕ, zero, suc, _*_, _^_, _≤_, _<_}
 use native.Mathlib.Nat.{le-trans, le-antisymm}
 use native.Mathlib.Omega.{arith}
+use lib.Bits.{bitXor, xor-lt}
 use lib.Count.{ones}
 use lib.Dec.{lit<, lit≤}
 use lib.ListN.{length, getD}
@@ -11,11 +13,18 @@ use Rattle.words.specs.Word.{bit, dist}
 use Rattle.words.specs.Fields.{fields, joined}
 use Rattle.words.proofs.Fields.{bit-fields, joined-fields, fields-joined, dist-fields}
 use Rattle.words.proofs.Sum.{sum-eq, sum-bits}
-use Rattle.codes.specs.Promises.{States}
+use Rattle.codes.specs.Verdict.{Verdict, clean, mended, lost, tie, answered, verdict, flipsOf, refusal, repaired, scrubbed}
+use Rattle.codes.specs.Promises.{States, Demand3}
 use Rattle.codes.proofs.Promises.{every-code}
+use Rattle.codes.proofs.Tally.{scrubbed-lt}
 use Rattle.grid.specs.Equations.{dataBit, dataOf, Codeword}
 use Rattle.grid.specs.Code.{codeword, gridCode}
-use Rattle.grid.specs.Promises.{GridPromises, OneOutcome}
+use Rattle.grid.specs.Answer.{means, numberOf}
+use Rattle.grid.specs.Calls.{Decoded}
+use Rattle.grid.specs.Promises.{GridPromises, DecodePromises, OneOutcome}
+use Rattle.grid.specs.declared.Answer.{Answer}
+use Rattle.grid.specs.declared.Verdict as enum
+use Rattle.grid.specs.declared.Verdict.the-variants.{Clean, Mended, Lost, Tie}
 use Rattle.grid.proofs.Codeword.{is-codeword, one-solution, one-value}
 use Rattle.grid.proofs.Distance.{codeword-lt, distance}
 
@@ -56,9 +65,102 @@ promised = record {
   eight-are-lost = every-code gridCode .one-more-is-lost 16 distance (lit≤ tt);
 }
 
+-- ---- the decoder's answer
+
+module _ (rows : List ℕ) (r : Answer) (h : Decoded rows r) where
+  numbers : (numberOf (r .verdict) ≡ 0) ⊎ (numberOf (r .verdict) ≡ 1)
+  numbers = go (means (r .verdict)) (h .answer)
+    where
+      go : (v : Verdict) → v ≡ verdict gridCode (joined 8 rows) → (refusal 1 v ≡ 0) ⊎ (refusal 1 v ≡ 1)
+      go (clean d) e = inl refl
+      go (mended d n) e = inl refl
+      go lost e = inr refl
+      go tie e = absurd (promised .verdicts .no-tie (joined 8 rows) (sym e))
+
+  as-read : length rows ≡ 8 → ((i : ℕ) → getD rows i 0 < 2 ^ 8) → numberOf (r .verdict) ≡ 1 → r .grid .rows ≡ rows
+  as-read n small one = h .repaired ∙ go (means (r .verdict)) (h .answer) one ∙ whole rows n small
+    where
+      go : (v : Verdict) → v ≡ verdict gridCode (joined 8 rows) → refusal 1 v ≡ 1 → fields 8 8 (scrubbed gridCode (joined 8 rows)) ≡ fields 8 8 (joined 8 rows)
+      go (clean d) e x = absurd (omega (arith, x))
+      go (mended d n) e x = absurd (omega (arith, x))
+      go lost e x = ap (λ v. fields 8 8 (repaired gridCode (joined 8 rows) v)) (sym e)
+      go tie e x = ap (λ v. fields 8 8 (repaired gridCode (joined 8 rows) v)) (sym e)
+
+  changed : joined 8 rows < 2 ^ 64 → flipsOf (means (r .verdict)) ≡ dist (joined 8 rows) (joined 8 (r .grid .rows))
+  changed l =
+      ap flipsOf (h .answer) ∙ promised .verdicts .changed (joined 8 rows)
+      ∙ ap (dist (joined 8 rows))
+      (sym (ap (joined 8) (h .repaired)
+      ∙ joined-fields 8 8 (scrubbed gridCode (joined 8 rows)) (scrubbed-lt gridCode (promised .verdicts) (2 ^ 64) codeword-lt (joined 8 rows) l)))
+
+  -- the rows are those of a word whose verdict is known
+  of-word : (w : ℕ) (v : Verdict) → joined 8 rows ≡ w → verdict gridCode w ≡ v
+      → (means (r .verdict) ≡ v) × (r .grid .rows ≡ fields 8 8 (repaired gridCode w v))
+  of-word w v e p = (
+    h .answer ∙ ap (verdict gridCode) e ∙ p,
+    h .repaired ∙ ap (λ (x : ℕ). fields 8 8 (scrubbed gridCode x)) e ∙ ap (λ x. fields 8 8 (repaired gridCode w x)) p,
+  )
+
+answered-repaired : (w d n : ℕ) → repaired gridCode w (answered d n) ≡ codeword d
+answered-repaired w d zero = refl
+answered-repaired w d (suc n) = refl
+
+-- a pattern of flips on a written grid
+flipped : (d p : ℕ) → d < 2 ^ 16 → p < 2 ^ 64 → joined 8 (fields 8 8 (bitXor (codeword d) p)) ≡ bitXor (codeword d) p
+flipped d p l h = joined-fields 8 8 (bitXor (codeword d) p) (xor-lt 64 (codeword d) p (codeword-lt d l) h)
+
+undone : (d p : ℕ) (r : Answer) → d < 2 ^ 16 → p < 2 ^ 64 → ones p ≤ 7 → Decoded (fields 8 8 (bitXor (codeword d) p)) r
+    → (means (r .verdict) ≡ answered d (ones p)) × (r .grid .rows ≡ fields 8 8 (codeword d))
+undone d p r l k few h =
+    let (v, g) =
+    of-word (fields 8 8 (bitXor (codeword d) p)) r h (bitXor (codeword d) p) (answered d (ones p)) (flipped d p l k)
+    (promised .verdicts .undone d p l few) in
+    (v, g ∙ ap (fields 8 8) (answered-repaired (bitXor (codeword d) p) d (ones p)))
+
+-- ---- no second outcome
+
+-- a verdict tells its case of the enum
+told : Verdict → enum.Verdict
+told (clean d) = Clean d
+told (mended d n) = Mended d n
+told lost = Lost
+told tie = Tie
+
+told-means : (v : enum.Verdict) → told (means v) ≡ v
+unfolding told
+told-means (Clean d) = refl
+told-means (Mended d n) = refl
+told-means Lost = refl
+told-means Tie = refl
+
+same-answer : (rows : List ℕ) (a b : Answer) → Decoded rows a → Decoded rows b → a ≡ b
+same-answer rows a b p q = λ i. record {
+  verdict = (sym (told-means (a .verdict)) ∙ ap told (p .answer ∙ sym (q .answer)) ∙ told-means (b .verdict)) i;
+  grid = record { rows = (p .repaired ∙ sym (q .repaired)) i };
+}
+
+pub decode-promised : DecodePromises
+decode-promised = record {
+  demand3 = λ rows r h. subst (Demand3 gridCode (joined 8 rows)) (sym (h .answer)) (promised .verdicts .demand3 (joined 8 rows));
+  numbers = numbers;
+  no-tie = λ rows r h e. promised .verdicts .no-tie (joined 8 rows) (sym (h .answer) ∙ e);
+  changed = λ rows r l h. changed rows r h l;
+  as-read = λ rows r n small h one. as-read rows r h n small one;
+  encoded = λ d rows r l e h.
+      let (v, g) = of-word rows r h (codeword d) (clean d) (ap (joined 8) (e .answer) ∙ joined-fields 8 8 (codeword d) (codeword-lt d l)) (promised .verdicts .unharmed d l) in
+      (v, g ∙ sym (e .answer));
+  undone = undone;
+  eight = λ d p r l k e h.
+      let (v, g) =
+      of-word (fields 8 8 (bitXor (codeword d) p)) r h (bitXor (codeword d) p) lost (flipped d p l k) (promised .eight-are-lost d p l e) in
+      (v, ap (refusal 1) v);
+}
+
 pub one-outcome : OneOutcome
 one-outcome = record {
   encode = λ d a b p q. p .answer ∙ sym (q .answer);
   number = λ rows a b p q. p .answer ∙ sym (q .answer);
   of-number = λ w a b p q. p .answer ∙ sym (q .answer);
+  is-clean = λ rows a b p q. p .answer ∙ sym (q .answer);
+  decode-and-mend = same-answer;
 }
