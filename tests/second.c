@@ -1,5 +1,9 @@
 #include "second.h"
 
+void *memchr(const void *, int, unsigned long);
+
+enum { VALUES = 65536, RADIUS = 7, LONGEST_PAGE = 512, LENGTH_NOT_ALLOWED = 3, LOST = 1, TIE = 5 };
+
 /* A grid as document 01 has it: what stands at row r, place c. */
 struct places {
     unsigned at[8][8];
@@ -45,23 +49,94 @@ uint64_t second_grid(uint16_t data)
     return number;
 }
 
-uint64_t plain_grid(uint16_t data)
-{
-    /* the four data rows side by side, a byte each, and a check place of all four at a time */
-    uint32_t d = (data & 0xFu) | (data & 0xF0u) << 4 | (data & 0xF00u) << 8 | (data & 0xF000u) << 12, one = 0x01010101;
-    uint32_t p4 = (d ^ d >> 1 ^ d >> 2) & one, p5 = (d ^ d >> 2 ^ d >> 3) & one, p6 = (d >> 1 ^ d >> 2 ^ d >> 3) & one;
-    uint32_t p7 = ((d ^ d >> 1 ^ d >> 2 ^ d >> 3) & one) ^ p4 ^ p5 ^ p6;
-    uint32_t rows = d | p4 << 4 | p5 << 5 | p6 << 6 | p7 << 7;
-
-    uint8_t a = (uint8_t)rows, b = (uint8_t)(rows >> 8), c = (uint8_t)(rows >> 16), e = (uint8_t)(rows >> 24);
-    uint8_t r4 = a ^ b ^ e, r5 = a ^ c ^ e, r6 = b ^ c ^ e, r7 = a ^ b ^ c ^ e ^ r4 ^ r5 ^ r6;
-    return rows | (uint64_t)r4 << 32 | (uint64_t)r5 << 40 | (uint64_t)r6 << 48 | (uint64_t)r7 << 56;
-}
-
 unsigned second_distance(uint64_t a, uint64_t b)
 {
     unsigned places = 0;
     for (unsigned k = 0; k < 64; k++)
         places += (a >> k & 1) != (b >> k & 1);
     return places;
+}
+
+/* Looking at 65,536 codewords for each word has to be quick. A codeword is the exclusive or of two, those of its data value's high
+   and low byte, so a word differs from it where the word with the first taken away differs from the second; that is counted row by
+   row, and `differing` knows all counts of one row: row r is the byte x, the codeword that of the low byte. */
+static uint64_t high[256];
+static uint8_t differing[8][256][256];
+
+static void prepare(void)
+{
+    for (unsigned d = 0; d < 256; d++) {
+        uint64_t low = second_grid((uint16_t)d);
+        for (unsigned r = 0; r < 8; r++)
+            for (unsigned x = 0; x < 256; x++)
+                differing[r][x][d] = (uint8_t)second_distance(x, low >> 8 * r & 255);
+        high[d] = second_grid((uint16_t)(256 * d));
+    }
+}
+
+const uint8_t *second_counts(uint64_t word)
+{
+    static uint8_t counts[VALUES];
+    static int prepared;
+    if (!prepared)
+        prepare();
+    prepared = 1;
+
+    for (unsigned h = 0; h < 256; h++) {
+        const uint8_t *row[8];
+        for (unsigned r = 0; r < 8; r++)
+            row[r] = differing[r][(word ^ high[h]) >> 8 * r & 255];
+        for (unsigned l = 0; l < 256; l++)
+            counts[256 * h + l] = (uint8_t)(row[0][l] + row[1][l] + row[2][l] + row[3][l] + row[4][l] + row[5][l] + row[6][l] + row[7][l]);
+    }
+    return counts;
+}
+
+struct answer second_decode(uint64_t word)
+{
+    /* Let n be the least number of places in which the word read differs from a codeword. */
+    const uint8_t *counts = second_counts(word), *end = counts + VALUES;
+    uint8_t n = 64;
+    for (unsigned d = 0; d < VALUES; d++)
+        n = counts[d] < n ? counts[d] : n;
+
+    /* If n is over the radius: lost. If two codewords are at n and n is within the radius: tie. On refusal the grid as read. */
+    if (n > RADIUS)
+        return (struct answer){.number = LOST, .repaired = word};
+    const uint8_t *one = memchr(counts, n, VALUES);
+    if (memchr(one + 1, n, (unsigned long)(end - one - 1)) != 0)
+        return (struct answer){.number = TIE, .repaired = word};
+
+    /* Otherwise the codeword is the answer: clean if n = 0, mended with n flips if not. */
+    uint16_t data = (uint16_t)(one - counts);
+    return (struct answer){.data = data, .flips = n, .repaired = second_grid(data)};
+}
+
+uint32_t second_scrub(uint64_t *page, uint64_t n, uint32_t tally[5])
+{
+    /* Page: 0 to 512 grids. A length not allowed: nothing written. */
+    if (n > LONGEST_PAGE)
+        return LENGTH_NOT_ALLOWED;
+
+    /* Each mended grid is replaced by its codeword; clean, lost and tied grids are kept. Ties count as lost. Flips is the sum over
+       mended grids. */
+    uint32_t clean = 0, mended = 0, lost = 0, flips = 0;
+    for (uint64_t k = 0; k < n; k++) {
+        struct answer a = second_decode(page[k]);
+        if (a.number != 0) {
+            lost++;
+        } else if (a.flips == 0) {
+            clean++;
+        } else {
+            mended++;
+            flips += a.flips;
+            page[k] = a.repaired;
+        }
+    }
+    tally[0] = (uint32_t)n;
+    tally[1] = clean;
+    tally[2] = mended;
+    tally[3] = lost;
+    tally[4] = flips;
+    return 0;
 }

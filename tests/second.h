@@ -1,11 +1,24 @@
-/* The second program: document 01 once more, in C. */
+/* The second program: document 01 once more, in C, written from the document alone and from no line of the library. */
 #include <stdint.h>
 
-/* The grid of a data value, place by place, written from the document alone and from no line of the library. */
+/* The grid of a data value, place by place. */
 uint64_t second_grid(uint16_t data);
-
-/* The same in C for speed, with no table: the library's cost is counted beside this one's, and `second_grid` checks it. */
-uint64_t plain_grid(uint16_t data);
 
 /* In how many places two 64-bit numbers differ. */
 unsigned second_distance(uint64_t a, uint64_t b);
+
+/* In how many places a word differs from the codeword of each of the 65,536 data values. They stand until the next call. */
+const uint8_t *second_counts(uint64_t word);
+
+/* What a word read gives: document 01's number (0 where nothing is refused, 1 lost, 5 tie), the data and the flips (both 0 on
+   refusal), and the repaired grid. */
+struct answer {
+    uint32_t number, data, flips;
+    uint64_t repaired;
+};
+
+/* The answer by the definition: every codeword is looked at. */
+struct answer second_decode(uint64_t word);
+
+/* A page scrub. It returns document 01's number, 0 or 3; the tally is grids, clean, mended, lost and flips. */
+uint32_t second_scrub(uint64_t *page, uint64_t n, uint32_t tally[5]);

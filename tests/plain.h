@@ -1,0 +1,7 @@
+/* The grid in C for speed, with tables of at most 16 entries, in the forms of `library.h`. The library's cost is counted beside this
+   one's, and the second program checks it. */
+#include <stdint.h>
+
+uint64_t plain_grid(uint16_t data);
+void plain_decode(const uint64_t *words, uint64_t n, uint64_t *verdicts, uint64_t *repaired);
+uint32_t plain_scrub(uint64_t *page, uint64_t n, uint32_t tally[5]);
