@@ -1,40 +1,83 @@
-/* One operation many times, for counting its instructions: `speed SIDE OPERATION COUNT`, where SIDE is `library` or `plain`. */
+/* One operation many times, for counting its instructions: `speed SIDE OPERATION COUNT`, where SIDE is `library` or `plain`. COUNT is a
+   multiple of 1000. */
 #include "library.h"
-#include "second.h"
+#include "plain.h"
 
 int printf(const char *, ...);
 int atoi(const char *);
 int strcmp(const char *, const char *);
 
-static uint64_t library_encode(uint32_t n)
+enum { WORDS = 1000, PAGE = 500, NUMBERS = 5 };
+
+/* what is decoded and scrubbed, and the answers */
+static uint64_t words[WORDS], verdicts[WORDS], repaired[WORDS];
+static uint32_t tally[NUMBERS];
+
+static uint16_t value(uint32_t k)
 {
-    uint64_t sum = 0;
-    for (uint32_t k = 0; k < n; k++)
-        sum ^= grid_encode((uint16_t)(k * 40503));
-    return sum;
+    return (uint16_t)(k * 40503);
 }
 
-static uint64_t plain_encode(uint32_t n)
+static void library_encode(uint32_t n)
 {
-    uint64_t sum = 0;
     for (uint32_t k = 0; k < n; k++)
-        sum ^= plain_grid((uint16_t)(k * 40503));
-    return sum;
+        repaired[0] ^= grid_encode(value(k));
 }
 
+static void plain_encode(uint32_t n)
+{
+    for (uint32_t k = 0; k < n; k++)
+        repaired[0] ^= plain_grid(value(k));
+}
+
+static void library_decode(uint32_t n)
+{
+    for (; n >= WORDS; n -= WORDS)
+        grid_decode(words, WORDS, verdicts, WORDS, repaired, WORDS);
+}
+
+static void plain_decodes(uint32_t n)
+{
+    for (; n >= WORDS; n -= WORDS)
+        plain_decode(words, WORDS, verdicts, repaired);
+}
+
+static void library_scrub(uint32_t n)
+{
+    for (; n >= PAGE; n -= PAGE)
+        page_scrub(words, PAGE, tally, NUMBERS);
+}
+
+static void plain_scrubs(uint32_t n)
+{
+    for (; n >= PAGE; n -= PAGE)
+        plain_scrub(words, PAGE, tally);
+}
+
+/* each with the places that are flipped in every codeword */
 static const struct {
-    const char *side, *name;
-    uint64_t (*run)(uint32_t);
+    const char *name;
+    uint64_t flips;
+    void (*library)(uint32_t), (*plain)(uint32_t);
 } operations[] = {
-    {"library", "encode", library_encode},
-    {"plain", "encode", plain_encode},
+    {"encode", 0, library_encode, plain_encode},
+    {"clean", 0, library_decode, plain_decodes},
+    {"flip-1", 0x0000000000000001, library_decode, plain_decodes},
+    {"flip-3", 0x0000400002000001, library_decode, plain_decodes},
+    {"flip-7", 0x0102040810204000, library_decode, plain_decodes},
+    {"both-trials", 0x0000000000070007, library_decode, plain_decodes},
+    {"lost", 0x000000B1000000B1, library_decode, plain_decodes},
+    {"page-clean", 0, library_scrub, plain_scrubs},
 };
 
-int main(int n, char **words)
+int main(int n, char **names)
 {
     for (unsigned k = 0; n == 4 && k < sizeof operations / sizeof *operations; k++)
-        if (strcmp(words[1], operations[k].side) == 0 && strcmp(words[2], operations[k].name) == 0) {
-            printf("%llu\n", (unsigned long long)operations[k].run((uint32_t)atoi(words[3])));
+        if (strcmp(names[2], operations[k].name) == 0) {
+            for (uint32_t w = 0; w < WORDS; w++)
+                words[w] = plain_grid(value(w)) ^ operations[k].flips;
+            (strcmp(names[1], "library") == 0 ? operations[k].library : operations[k].plain)((uint32_t)atoi(names[3]));
+            printf("%llx %llx %u\n", (unsigned long long)verdicts[0], (unsigned long long)repaired[0], tally[1]);
             return 0;
         }
     printf("speed: no such operation\n");

@@ -11,7 +11,7 @@ use Rattle.grid.proofs.Grid.mend.Tie as tie
 
 returns : tie.Need-returns
 returns c =
-    let rows : List ℕ = c .before .before .before .args .self .rows in
+    let rows : List ℕ = c .before .before .before .before .args .self .rows in
     let small : (i : ℕ) → Fits w8 (getD rows i 0) = λ i. search needs in
     let number = c .before .before .number in
     let nearest = c .before .nearest in
@@ -20,7 +20,7 @@ returns c =
 
 returns-2 : tie.Need-returns-2
 returns-2 c =
-    let rows : List ℕ = c .before .before .before .before .before .before .before .args .self .rows in
+    let rows : List ℕ = c .before .before .before .before .before .before .before .before .args .self .rows in
     let small : (i : ℕ) → Fits w8 (getD rows i 0) = λ i. search needs in
     let number = c .before .before .before .before .before .before .number in
     let nearest = c .before .before .before .before .before .nearest in
@@ -32,7 +32,7 @@ returns-2 c =
 
 returns-3 : tie.Need-returns-3
 returns-3 c =
-    let rows : List ℕ = c .before .before .before .before .before .before .before .args .self .rows in
+    let rows : List ℕ = c .before .before .before .before .before .before .before .before .args .self .rows in
     let small : (i : ℕ) → Fits w8 (getD rows i 0) = λ i. search needs in
     let number = c .before .before .before .before .before .before .number in
     let nearest = c .before .before .before .before .before .nearest in

@@ -1,4 +1,4 @@
--- `grid::Grid::nearest` meets its contract: two trials are enough. Assumes nothing.
+-- `grid::trial::nearest` meets its contract: two trials are enough. Assumes nothing.
 use mathlib.Core.Path.{_≡_, sym, subst}
 use mathlib.Core.List.{List, map}
 use Prim.Native.Nat.{ℕ}
@@ -11,8 +11,8 @@ use Rattle.words.proofs.Fields.{Below}
 use Rattle.grid.specs.Steps.{mendedRow, Mended}
 use Rattle.grid.proofs.Decoder.{made-row, both-trials}
 use borrow.Author.Needs.{needs}
-use Rattle.grid.proofs.Grid.nearest.Statement.{statement}
-use Rattle.grid.proofs.Grid.nearest.Tie as tie
+use Rattle.grid.proofs.trial.nearest.Statement.{statement}
+use Rattle.grid.proofs.trial.nearest.Tie as tie
 
 is-mended : (rows : List ℕ) (word x : ℕ) → length rows ≡ 8 → Below 8 rows → word ≡ joined 8 rows → x ≡ joined 8 (map mendedRow rows) → Mended word x
 is-mended rows word x n small e s =
@@ -20,20 +20,20 @@ is-mended rows word x n small e s =
 
 trial-requires : tie.Need-trial-requires
 trial-requires c κs =
-    let rows : List ℕ = c .before .before .args .self .rows in
+    let rows : List ℕ = c .before .args .read in
     let small : (i : ℕ) → Fits w8 (getD rows i 0) = λ i. search needs in
-    (is-mended rows (c .before .before .args .word) (c .mended .result) (search needs) (λ i. small i .fits) (c .before .before .pre) (c .mended .ensures), lit< tt, lit< tt)
+    (is-mended rows (c .before .args .word) (c .mended .result) (search needs) (λ i. small i .fits) (c .before .pre) (c .mended .ensures), lit< tt, lit< tt)
 
 trial-requires-2 : tie.Need-trial-requires-2
 trial-requires-2 c κs =
     let m = c .before .before .before in
-    let rows : List ℕ = m .before .before .args .self .rows in
+    let rows : List ℕ = m .before .args .read in
     let small : (i : ℕ) → Fits w8 (getD rows i 0) = λ i. search needs in
-    (is-mended rows (m .before .before .args .word) (m .mended .result) (search needs) (λ i. small i .fits) (m .before .before .pre) (m .mended .ensures), lit< tt, lit< tt)
+    (is-mended rows (m .before .args .word) (m .mended .result) (search needs) (λ i. small i .fits) (m .before .pre) (m .mended .ensures), lit< tt, lit< tt)
 
 returns-2 : tie.Need-returns-2
 returns-2 c =
-    let s = c .before .before .before .before .before .before in
+    let s = c .before .before .before .before .before in
     let first = c .before .before .before .trial in
     both-trials (s .args .word) (first .result .number) (first .result .flips) (c .trial2 .result .number) (c .trial2 .result .flips)
     (s .fits .word .fits) (first .ensures) (c .before .if1 .left) (c .trial2 .ensures)

@@ -1,10 +1,10 @@
--- `grid::lower` meets its contract: both sides are linear in the data, and agree at each data bit. Assumes nothing.
+-- `grid::places::lower` meets its contract: both sides are linear in the data, and agree at each data bit. Assumes nothing.
 use mathlib.Core.Path.{ap, _∙_}
 use Rattle.words.proofs.Linear.{Linear, same, _⊕_, shr, shl, low, mask, then, agree}
 use Rattle.grid.specs.Code.{codeword}
 use Rattle.grid.proofs.Codeword.{grids}
-use Rattle.grid.proofs.lower.Statement.{statement}
-use Rattle.grid.proofs.lower.Tie as tie
+use Rattle.grid.proofs.places.lower.Statement.{statement}
+use Rattle.grid.proofs.places.lower.Tie as tie
 
 -- what the code computes
 abbrev pairs : Linear

@@ -1,9 +1,9 @@
--- `grid::data_places` meets its contract: both sides are linear, and agree at each data bit. Assumes nothing.
+-- `grid::places::data_places` meets its contract: both sides are linear, and agree at each data bit. Assumes nothing.
 use Rattle.words.proofs.Linear.{Linear, same, _⊕_, shl, mask, agree}
 use Rattle.grid.specs.Code.{codeword}
 use Rattle.grid.proofs.Codeword.{grids}
-use Rattle.grid.proofs.data_places.Statement.{statement}
-use Rattle.grid.proofs.data_places.Tie as tie
+use Rattle.grid.proofs.places.data_places.Statement.{statement}
+use Rattle.grid.proofs.places.data_places.Tie as tie
 
 -- what the code computes
 abbrev pairs : Linear

@@ -1,9 +1,9 @@
--- `grid::places_of` meets its contract: the mask leaves no more than 32 bits. Assumes nothing.
+-- `grid::places::places_of` meets its contract: the mask leaves no more than 32 bits. Assumes nothing.
 use native.Mathlib.Omega.{arith}
 use lib.Bits.{and-le-r}
 use borrow.Author.Needs.{needs}
-use Rattle.grid.proofs.places_of.Statement.{statement}
-use Rattle.grid.proofs.places_of.Tie as tie
+use Rattle.grid.proofs.places.places_of.Statement.{statement}
+use Rattle.grid.proofs.places.places_of.Tie as tie
 
 cast-result : tie.Need-cast-result
 cast-result c = record { fits = omega (arith, and-le-r (c .args .w) 0x0F0F_0F0F) }

@@ -1,12 +1,12 @@
--- `grid::data_of` meets its contract: both sides are linear, and agree at each place. Assumes nothing.
+-- `grid::places::data_of` meets its contract: both sides are linear, and agree at each place. Assumes nothing.
 use mathlib.Core.Path.{sym, ap, _∙_}
 use Prim.Native.Nat.{ℕ, _/_, _^_}
 use lib.Bits.{bitAnd, bitXor, mask-lt}
 use Rattle.words.proofs.Linear.{Linear, same, _⊕_, shr, mask, then, agree}
 use Rattle.grid.specs.Code.{codeword}
 use Rattle.grid.proofs.Codeword.{grids}
-use Rattle.grid.proofs.data_of.Statement.{statement}
-use Rattle.grid.proofs.data_of.Tie as tie
+use Rattle.grid.proofs.places.data_of.Statement.{statement}
+use Rattle.grid.proofs.places.data_of.Tie as tie
 
 -- what the code computes
 abbrev pairs : Linear

@@ -1,4 +1,4 @@
--- `grid::completed` meets its contract: the two halves are those of the codeword. Assumes nothing.
+-- `grid::places::completed` meets its contract: the two halves are those of the codeword. Assumes nothing.
 use mathlib.Core.Path.{_≡_, ap₂, _∙_}
 use Prim.Native.Nat.{ℕ, _*_, _/_, _%_, _^_, _<_}
 use lib.Bits.{bitOr}
@@ -6,8 +6,8 @@ use Rattle.words.proofs.Fields.{both-parts}
 use Rattle.grid.specs.Code.{codeword}
 use Rattle.grid.proofs.Distance.{codeword-lt}
 use borrow.Author.Needs.{needs}
-use Rattle.grid.proofs.completed.Statement.{statement}
-use Rattle.grid.proofs.completed.Tie as tie
+use Rattle.grid.proofs.places.completed.Statement.{statement}
+use Rattle.grid.proofs.places.completed.Tie as tie
 
 returns : tie.Need-returns
 returns c d l e =

@@ -1,11 +1,11 @@
--- `grid::upper` meets its contract: both sides are linear in the data, and agree at each data bit. Assumes nothing.
+-- `grid::places::upper` meets its contract: both sides are linear in the data, and agree at each data bit. Assumes nothing.
 use mathlib.Core.Path.{ap, _∙_}
 use Prim.Native.Nat.{ℕ}
 use Rattle.words.proofs.Linear.{Linear, same, _⊕_, shr, shl, low, mask, then, agree}
 use Rattle.grid.specs.Code.{codeword}
 use Rattle.grid.proofs.Codeword.{grids}
-use Rattle.grid.proofs.upper.Statement.{statement}
-use Rattle.grid.proofs.upper.Tie as tie
+use Rattle.grid.proofs.places.upper.Statement.{statement}
+use Rattle.grid.proofs.places.upper.Tie as tie
 
 -- what the code computes
 abbrev p1 : Linear

@@ -1,0 +1,45 @@
+// The two trials. Row by row, what both together pay for a codeword is at most the places in which the
+// row differs from the codeword's; seven places cannot pay for both. So a codeword within seven is
+// reached by one of them.
+ghost use mathlib.Core.Path.{_≡_};
+ghost use Prim.Native.Nat.{_<_};
+ghost use Rattle.words.specs.Fields.{joined};
+ghost use Rattle.grid.specs.Steps.{Mended, Tried, Nearby};
+use super::Grid;
+use super::columns;
+use super::places;
+use super::rows;
+
+// A codeword, and in how many places the word read differs from it.
+pub struct Near {
+    pub number: u64,
+    pub flips: u32,
+}
+
+// A trial on the rows put right, where those are set aside that need `least` flips or more: the columns
+// put right, and the places of the codeword that is reached, counted.
+pub fn trial(word: u64, rows: u64, least: u32) -> Near
+    requires { ⌜ Mended word rows × (0 < least) × (least < 3) ⌝ }
+    ensures { λ r. ⌜ Tried least word (r .number) (r .flips) ⌝ }
+{
+    let aside = (rows >> (3 + least)) & 0x0101_0101_0101_0101;
+    let number = places::completed(places::places_of(columns::solved(rows, aside)));
+    Near {
+        number,
+        flips: u64::count_ones(word ^ number),
+    }
+}
+
+// What the first trial reaches if it is near enough, and what the second does if not: the first sets
+// the rows aside that need two flips, the second those that need one or two.
+pub fn nearest(read: [u8; 8], word: u64) -> Near
+    requires { ⌜ word ≡ joined 8 read ⌝ }
+    ensures { λ r. ⌜ Nearby word (r .number) (r .flips) ⌝ }
+{
+    let rows = rows::mended(read);
+    let first = trial(word, rows, 2);
+    if first.flips <= Grid::RADIUS {
+        return first;
+    }
+    trial(word, rows, 1)
+}

@@ -1,0 +1,122 @@
+/* The library's page scrub beside the second program's. `page` runs all tests, `page SEED` runs them on other pages. A difference is
+   reported at the number of the page. */
+#include "draw.h"
+#include "library.h"
+#include "plain.h"
+#include "second.h"
+
+unsigned long long strtoull(const char *, char **, int);
+
+/* A page and a tally stand in the middle of a room, the rest of which nothing may touch. */
+enum { BEFORE = 3, LONGEST = 600, ROOM = BEFORE + LONGEST + BEFORE, NUMBERS = 5, TALLY_ROOM = BEFORE + NUMBERS + BEFORE };
+
+struct state {
+    uint64_t grids[ROOM];
+    uint32_t tally[TALLY_ROOM], returned;
+};
+
+enum { GRIDS = BEFORE, CLEAN, MENDED, LOST, FLIPS };
+
+/* of 16 grids of a page, on average: so many clean, so many with 1 to 7 flips, so many with 8, and the others any words */
+struct mix {
+    unsigned clean, mended, eight;
+};
+
+static void draw_state(struct state *s, uint64_t n, struct mix mix)
+{
+    for (unsigned k = 0; k < ROOM; k++)
+        s->grids[k] = draw();
+    for (unsigned k = 0; k < TALLY_ROOM; k++)
+        s->tally[k] = (uint32_t)draw();
+    s->returned = 0;
+    for (uint64_t k = 0; k < n; k++) {
+        uint64_t which = draw() % 16, codeword = second_grid((uint16_t)draw());
+        if (which < mix.clean)
+            s->grids[BEFORE + k] = codeword;
+        else if (which < mix.clean + mix.mended)
+            s->grids[BEFORE + k] = codeword ^ draw_places(UINT64_MAX, 1 + draw() % 7);
+        else if (which < mix.clean + mix.mended + mix.eight)
+            s->grids[BEFORE + k] = codeword ^ draw_places(UINT64_MAX, 8);
+    }
+}
+
+static void compare_states(struct test *t, const struct state *a, const struct state *b, uint64_t at)
+{
+    compare(t, a->returned, b->returned, at);
+    for (unsigned k = 0; k < TALLY_ROOM; k++)
+        compare(t, a->tally[k], b->tally[k], at);
+    for (unsigned k = 0; k < ROOM; k++)
+        compare(t, a->grids[k], b->grids[k], at);
+}
+
+static struct test scrubbed = {.name = "page scrub, 0 to 512 grids"}, again = {.name = "page scrub, a second time"},
+                   refused = {.name = "page scrub, 513 and 600 grids"}, plain = {.name = "the plain version's page scrub, the same pages"};
+
+/* all three scrub the same page; what the library made of it is left in its state */
+static void scrub(struct test *t, struct state *library, uint64_t n, uint64_t at)
+{
+    struct state second = *library, plainly = *library;
+    library->returned = page_scrub(library->grids + BEFORE, n, library->tally + BEFORE, NUMBERS);
+    second.returned = second_scrub(second.grids + BEFORE, n, second.tally + BEFORE);
+    plainly.returned = plain_scrub(plainly.grids + BEFORE, n, plainly.tally + BEFORE);
+    compare_states(t, library, &second, at);
+    compare_states(&plain, &plainly, &second, at);
+}
+
+static void pages(void)
+{
+    static const uint64_t sizes[] = {0, 1, 2, 511, 512, 513, 600};
+    static const struct mix mixes[] = {{16, 0, 0}, {0, 16, 0}, {0, 0, 16}, {0, 0, 0}, {13, 1, 1}, {1, 13, 1}, {4, 4, 4}};
+    uint64_t at = 0;
+    for (unsigned s = 0; s < sizeof sizes / sizeof *sizes; s++)
+        for (unsigned m = 0; m < sizeof mixes / sizeof *mixes; m++, at++) {
+            struct state before, first;
+            draw_state(&before, sizes[s], mixes[m]);
+            first = before;
+            if (sizes[s] > 512) {
+                scrub(&refused, &first, sizes[s], at);
+                compare(&refused, first.returned, 3, at);
+                before.returned = 3;
+                compare_states(&refused, &first, &before, at);
+                continue;
+            }
+            scrub(&scrubbed, &first, sizes[s], at);
+            compare(&scrubbed, first.returned, 0, at);
+
+            struct state second = first, expected = first;
+            scrub(&again, &second, sizes[s], at);
+            expected.tally[CLEAN] += expected.tally[MENDED];
+            expected.tally[MENDED] = expected.tally[FLIPS] = 0;
+            compare_states(&again, &second, &expected, at);
+        }
+    report_drawn(scrubbed);
+    report_drawn(again);
+    report_drawn(refused);
+    report_drawn(plain);
+}
+
+/* a tally that has not five places is no page's fault, and has no number of document 01 */
+static void tallies(void)
+{
+    struct test t = {.name = "page scrub, tallies of other lengths"};
+    for (uint64_t m = 0; m <= NUMBERS + BEFORE; m++) {
+        if (m == NUMBERS)
+            continue;
+        struct state before, after;
+        draw_state(&before, 2, (struct mix){.mended = 16});
+        after = before;
+        before.returned = 255;
+        after.returned = page_scrub(after.grids + BEFORE, 2, after.tally + BEFORE, m);
+        compare_states(&t, &after, &before, m);
+    }
+    report_drawn(t);
+}
+
+int main(int n, char **words)
+{
+    if (n == 2)
+        seed = strtoull(words[1], 0, 10);
+    pages();
+    tallies();
+    return 0;
+}
