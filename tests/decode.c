@@ -1,7 +1,7 @@
 /* The library's decoder beside the second program's.
    `decode` runs all tests, `decode SEED` runs them on other words. `decode SIDE BIT`, where SIDE is `library` or `second program`, runs
-   one with that bit of one answer of that side flipped (0 to 63 in the verdict, 64 to 127 in the repaired grid): it has to fail. A
-   difference is reported at the word that was read. */
+   one with that bit of one answer of that side flipped (0 to 63 in the verdict, 64 to 127 in the repaired grid): it has to fail.
+   Answers that differ are reported at the word that was read. */
 #include "draw.h"
 #include "library.h"
 #include "plain.h"
@@ -10,9 +10,9 @@
 int strcmp(const char *, const char *);
 unsigned long long strtoull(const char *, char **, int);
 
-enum { VALUES = 65536, SLICE = 1000, MANY = 20000, PAIRS = 2000, FLIPPED = 1234 };
+enum { VALUES = 65536, SLICE = 1000, MANY = 20000, PAIRS = 2000 };
 
-/* an answer of either side: the verdict and the repaired grid */
+/* what is flipped in the first answer of either side: in the verdict and in the repaired grid */
 static uint64_t flip_library[2], flip_second[2];
 
 static struct test plain = {.name = "the plain version's decode, the same words"};
@@ -33,9 +33,10 @@ static void decode_waiting(struct test *t)
     for (uint64_t k = 0; k < waiting_count; k++) {
         struct answer a = second_decode(waiting[k]);
         uint64_t library[2] = {verdicts[k], repaired[k]}, second[2] = {number(a), a.repaired};
-        int flipped = t->compared == 2 * FLIPPED;
-        for (unsigned p = 0; p < 2; p++)
-            compare(t, library[p] ^ (flipped ? flip_library[p] : 0), second[p] ^ (flipped ? flip_second[p] : 0), waiting[k]);
+        for (unsigned p = 0; p < 2; p++) {
+            compare(t, library[p] ^ flip_library[p], second[p] ^ flip_second[p], waiting[k]);
+            flip_library[p] = flip_second[p] = 0;
+        }
         compare(&plain, plain_verdicts[k], second[0], waiting[k]);
         compare(&plain, plain_repaired[k], second[1], waiting[k]);
     }
@@ -55,7 +56,7 @@ static void finish(struct test *t)
     report_drawn(*t);
 }
 
-/* `second_counts` counts quickly; this is the slow way, and the rule that it rests on */
+/* the quick counts beside slow ones, and the rule that they rest on */
 static void counts(void)
 {
     struct test t = {.name = "the second program's counts of differing places"};
@@ -138,12 +139,15 @@ static void every_pattern(void)
 static void flipped_words(void)
 {
     struct test anywhere = {.name = "decode, 0 to 10 flips anywhere"}, close = {.name = "decode, 0 to 10 flips in few rows and columns"};
-    for (unsigned k = 0; k < MANY / 2; k++)
-        decode(&anywhere, second_grid((uint16_t)draw()) ^ draw_places(UINT64_MAX, draw() % 11));
+    for (unsigned k = 0; k < MANY / 2; k++) {
+        uint64_t codeword = second_grid((uint16_t)draw());
+        decode(&anywhere, codeword ^ draw_places(UINT64_MAX, draw() % 11));
+    }
     finish(&anywhere);
     for (unsigned k = 0; k < MANY / 2; k++) {
+        uint64_t codeword = second_grid((uint16_t)draw());
         uint64_t rows = draw_places(0x0101010101010101, 2 + draw() % 2), columns = draw_places(0xFF, 3 + draw() % 2);
-        decode(&close, second_grid((uint16_t)draw()) ^ draw_places(rows * columns, draw() % 11));
+        decode(&close, codeword ^ draw_places(rows * columns, draw() % 11));
     }
     finish(&close);
 }
@@ -156,7 +160,7 @@ static void random_words(void)
     finish(&t);
 }
 
-/* from one codeword to a nearest other: 7 of 16 places on the way, 8, which is lost, and 9 */
+/* on the way from a codeword to one that is 16 places away: 7 of these places flipped, then 8, then 9 */
 static void half_way(void)
 {
     static uint16_t near[VALUES];
@@ -167,9 +171,14 @@ static void half_way(void)
 
     struct test t = {.name = "decode, half-way between neighbours"};
     for (unsigned k = 0; k < PAIRS; k++) {
-        uint16_t from = (uint16_t)draw(), to = from ^ near[draw() % near_count];
-        for (unsigned flips = 7; flips <= 9; flips++)
-            decode(&t, second_grid(from) ^ draw_places(second_grid(from) ^ second_grid(to), flips));
+        uint16_t data = (uint16_t)draw();
+        uint64_t from = second_grid(data), to = second_grid(data ^ near[draw() % near_count]);
+        for (unsigned flips = 7; flips <= 9; flips++) {
+            uint64_t read = from ^ draw_places(from ^ to, flips);
+            compare(&t, second_distance(read, from), flips, read);
+            compare(&t, second_distance(read, to), 16 - flips, read);
+            decode(&t, read);
+        }
     }
     finish(&t);
 }

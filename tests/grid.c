@@ -1,8 +1,9 @@
 /* The library's grid beside the second program's.
    `grid` runs all tests. `grid SIDE BIT`, where SIDE is `library` or `second program`, runs the first one with that bit
    of one answer of that side flipped: it has to fail. */
+#include "draw.h"
 #include "library.h"
-#include "report.h"
+#include "plain.h"
 #include "second.h"
 
 int atoi(const char *);
@@ -28,7 +29,7 @@ static void every_grid(void)
 
 static void plain_version(void)
 {
-    struct test t = {.name = "the second program's plain version, every data value"};
+    struct test t = {.name = "the plain version's encode, every data value"};
     for (uint32_t d = 0; d < VALUES; d++)
         compare(&t, plain_grid((uint16_t)d), second_grid((uint16_t)d), d);
     report(&t);
@@ -53,15 +54,6 @@ static void worked_numbers(void)
         compare(&t, second_grid(worked[k].data), worked[k].grid, k);
     }
     report(&t);
-}
-
-/* a word that looks random, from a counter */
-static uint64_t word(uint64_t k)
-{
-    k = (k + 1) * 0x9E3779B97F4A7C15;
-    k = (k ^ k >> 30) * 0xBF58476D1CE4E5B9;
-    k = (k ^ k >> 27) * 0x94D049BB133111EB;
-    return k ^ k >> 31;
 }
 
 static void rows(void)

@@ -15,9 +15,10 @@ struct state {
     uint32_t tally[TALLY_ROOM], returned;
 };
 
+/* where the numbers of the tally stand in its room */
 enum { GRIDS = BEFORE, CLEAN, MENDED, LOST, FLIPS };
 
-/* of 16 grids of a page, on average: so many clean, so many with 1 to 7 flips, so many with 8, and the others any words */
+/* of 16 grids of a page, on average: so many clean, so many with 1 to 7 flips, so many with 8; the others are any words */
 struct mix {
     unsigned clean, mended, eight;
 };
@@ -70,24 +71,24 @@ static void pages(void)
     uint64_t at = 0;
     for (unsigned s = 0; s < sizeof sizes / sizeof *sizes; s++)
         for (unsigned m = 0; m < sizeof mixes / sizeof *mixes; m++, at++) {
-            struct state before, first;
+            struct state before, once, twice;
             draw_state(&before, sizes[s], mixes[m]);
-            first = before;
+            once = before;
             if (sizes[s] > 512) {
-                scrub(&refused, &first, sizes[s], at);
-                compare(&refused, first.returned, 3, at);
+                scrub(&refused, &once, sizes[s], at);
                 before.returned = 3;
-                compare_states(&refused, &first, &before, at);
+                compare_states(&refused, &once, &before, at);
                 continue;
             }
-            scrub(&scrubbed, &first, sizes[s], at);
-            compare(&scrubbed, first.returned, 0, at);
+            scrub(&scrubbed, &once, sizes[s], at);
+            compare(&scrubbed, once.returned, 0, at);
 
-            struct state second = first, expected = first;
-            scrub(&again, &second, sizes[s], at);
-            expected.tally[CLEAN] += expected.tally[MENDED];
-            expected.tally[MENDED] = expected.tally[FLIPS] = 0;
-            compare_states(&again, &second, &expected, at);
+            /* a second scrub finds clean + mended clean, the same lost, 0 mended, 0 flips, and alters nothing */
+            twice = once;
+            scrub(&again, &twice, sizes[s], at);
+            once.tally[CLEAN] += once.tally[MENDED];
+            once.tally[MENDED] = once.tally[FLIPS] = 0;
+            compare_states(&again, &twice, &once, at);
         }
     report_drawn(scrubbed);
     report_drawn(again);
@@ -95,7 +96,7 @@ static void pages(void)
     report_drawn(plain);
 }
 
-/* a tally that has not five places is no page's fault, and has no number of document 01 */
+/* a tally that has not five places is refused by the archive alone, and document 01 has no number for it */
 static void tallies(void)
 {
     struct test t = {.name = "page scrub, tallies of other lengths"};

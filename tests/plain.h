@@ -1,5 +1,5 @@
-/* The grid in C for speed, with tables of at most 16 entries, in the forms of `library.h`. The library's cost is counted beside this
-   one's, and the second program checks it. */
+/* The grid in C for speed, with tables of at most 16 entries and in the forms of `library.h`: the C whose cost is counted beside the
+   library's. The second program checks it. */
 #include <stdint.h>
 
 uint64_t plain_grid(uint16_t data);

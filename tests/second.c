@@ -57,9 +57,10 @@ unsigned second_distance(uint64_t a, uint64_t b)
     return places;
 }
 
-/* Looking at 65,536 codewords for each word has to be quick. A codeword is the exclusive or of two, those of its data value's high
-   and low byte, so a word differs from it where the word with the first taken away differs from the second; that is counted row by
-   row, and `differing` knows all counts of one row: row r is the byte x, the codeword that of the low byte. */
+/* 65,536 codewords are looked at for each word, so the counting has to be quick. The codeword of a data value is the exclusive or of
+   the codewords of its high and of its low byte. So a word differs from it in the places in which the word, exclusive or the high byte's
+   codeword, differs from the low byte's. They are counted row by row: differing[r][x][l] is the count if row r is x and the low byte l.
+   `decode` tests the rule and the counts. */
 static uint64_t high[256];
 static uint8_t differing[8][256][256];
 
@@ -78,9 +79,10 @@ const uint8_t *second_counts(uint64_t word)
 {
     static uint8_t counts[VALUES];
     static int prepared;
-    if (!prepared)
+    if (!prepared) {
         prepare();
-    prepared = 1;
+        prepared = 1;
+    }
 
     for (unsigned h = 0; h < 256; h++) {
         const uint8_t *row[8];
