@@ -10,7 +10,7 @@ use Prim.Native.Nat.{ℕ, zero, suc, _+_, _*_, _/_, _%_, _≤_, _<_, min}
 use native.Mathlib.Nat.{le-of-suc-le-suc}
 use native.Mathlib.Omega.{arith}
 use lib.Bits.{bitXor, differ, xor-self}
-use lib.Dec.{T, eqb, eqb→eq}
+use lib.Dec.{T, eqb}
 use lib.ListN.{length, getD}
 use Rattle.words.specs.Word.{choose, combined, sumTo}
 use Rattle.words.proofs.Bit.{by-bit, bit-cases, odd-lt, differ-lt, differ-zero, differ-self, eq-of-differ}

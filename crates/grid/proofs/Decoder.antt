@@ -2,7 +2,6 @@
 -- nothing.
 use mathlib.Core.Path.{_≡_, refl, sym, ap, ap₂, _∙_, subst}
 use mathlib.Core.Logic.{_⊎_, inl, inr}
-use mathlib.Core.Bool.{Bool, true, false}
 use mathlib.Core.List.{List, map}
 use Prim.Native.Nat.{ℕ, zero, suc, _+_, _*_, _/_, _%_, _^_, _≤_, _<_, min}
 use native.Mathlib.Nat.{lt-of-le-of-lt}
@@ -11,19 +10,19 @@ use native.Mathlib.Omega.{arith}
 use lib.Bits.{bitAnd, bitXor, differ, and-le-r, mask-lt}
 use lib.Dec.{lit<}
 use lib.ListN.{length, getD, length-map}
-use Rattle.words.specs.Word.{bit, dist, combined, sumTo}
+use Rattle.words.specs.Word.{bit, dist, combined}
 use Rattle.words.specs.Fields.{fields, joined}
-use Rattle.words.proofs.Bit.{bit-lt, bit-and, bit-xor, bit-low, bit-shr, xor-odd, eq-of-bits}
-use Rattle.words.proofs.Fields.{Below, bit-fields, fields-below, joined-fields, fields-joined, dist-fields}
+use Rattle.words.proofs.Bit.{bit-lt, bit-and, bit-low, bit-shr, eq-of-bits}
+use Rattle.words.proofs.Fields.{Below, bit-fields, fields-below, fields-joined, dist-fields}
 use Rattle.words.proofs.Linear.{Linear, same, _⊕_, shr, mask, then, combined-eq, agree}
 use Rattle.words.proofs.Sum.{sum-eq}
 use Rattle.words.proofs.Test.{same-below}
-use Rattle.codes.specs.Product.{Candidate, aside, InProduct}
+use Rattle.codes.specs.Product.{Candidate, aside}
 use Rattle.codes.proofs.Address.{distance4}
 use Rattle.codes.proofs.Trials.{candidate-column, every-product}
 use Rattle.grid.specs.Equations.{inColumn}
 use Rattle.grid.specs.Code.{codeword}
-use Rattle.grid.specs.Steps.{rowEntries, colEntries, sides, rowOf, fixed, mendedRow, Mended, Agrees, Solved, Reached, Tried, Nearby}
+use Rattle.grid.specs.Steps.{rowEntries, colEntries, sides, rowOf, fixed, mendedRow, Mended, Agrees, Solved, Tried, Nearby}
 use Rattle.grid.proofs.Codeword.{grids, eighth}
 use Rattle.grid.proofs.Distance.{in-product, codeword-lt}
 use Rattle.grid.proofs.Repair.{repair, kept, kept-row, kept-below}

@@ -5,7 +5,6 @@ use mathlib.Core.Logic.{_⊎_, inl, inr}
 use Prim.Native.Nat.{ℕ, _^_, _≤_, _<_}
 use lib.Bits.{bitXor}
 use lib.Dec.{eqb}
-use lib.ListN.{getD}
 use lib.Seq.{ext-getD}
 use Rattle.words.specs.Word.{bit, dist, combined}
 use Rattle.words.specs.Fields.{fields, joined}
@@ -13,7 +12,7 @@ use Rattle.words.proofs.Bit.{bit-lt, bit-xor}
 use Rattle.words.proofs.Fields.{fields-below, joined-fields, dist-fields}
 use Rattle.words.proofs.Linear.{Linear, none, then, field, combination, combined-differ, agree}
 use Rattle.words.proofs.Test.{allBelow, at-below}
-use Rattle.codes.specs.Product.{Sides, InProduct, Same, placesApart}
+use Rattle.codes.specs.Product.{InProduct, Same, placesApart}
 use Rattle.codes.specs.Promises.{Distance}
 use Rattle.codes.proofs.Address.{ByEntries, distance4}
 use Rattle.codes.proofs.Trials.{every-product}

@@ -9,15 +9,14 @@ use lib.Bits.{bitAnd, bitXor, differ, and-le-l, and-le-r}
 use lib.Dec.{eqb}
 use lib.ListN.{getD}
 use Rattle.words.specs.Word.{choose, bit, combined, sumTo}
-use Rattle.words.specs.Fields.{fields}
-use Rattle.words.proofs.Bit.{by-bit, bit-lt, bit-and, bit-xor, eq-of-bits, differ-lt}
-use Rattle.words.proofs.Fields.{Below, bit-fields, filled}
+use Rattle.words.proofs.Bit.{by-bit, bit-lt, bit-and, bit-xor, eq-of-bits}
+use Rattle.words.proofs.Fields.{bit-fields, filled}
 use Rattle.words.proofs.Linear.{same, mask, low, then, field, combined-lt, combined-eq, agree}
-use Rattle.words.proofs.Sum.{sum-le, sum-eq, sum-tight}
+use Rattle.words.proofs.Sum.{sum-eq}
 use Rattle.words.proofs.Test.{allBelow, at-below, allPairs, same-below, same-pairs}
 use Rattle.codes.proofs.Column.{only, lone, named, odd, at, inside, outside, Perfect, is-odd, one-right, several-right}
 use Rattle.grid.specs.Equations.{inColumn}
-use Rattle.grid.specs.Steps.{colEntries, rowOf, Asides, OneRow, Agrees, Solved}
+use Rattle.grid.specs.Steps.{colEntries, rowOf, Asides, OneRow, Solved}
 use Rattle.grid.proofs.Codeword.{eighth}
 
 perfect : Perfect colEntries 8

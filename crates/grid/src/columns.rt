@@ -39,7 +39,10 @@ pub fn first_row(aside: u64) -> u64
     255 << u64::trailing_zeros(aside)
 }
 
-// The rows put right, in each column in which a codeword agrees with them.
+// The rows put right, in each column in which a codeword agrees with them. In a column of even parity
+// the first row set aside is switched, so that all columns are odd, and one place of each is named. With
+// one row set aside or none, that place is the last one wrong. With more, no other row is wrong: where
+// the place named is in another row, all those set aside were.
 pub fn solved(rows: u64, aside: u64) -> u64
     requires { ⌜ Asides aside ⌝ }
     ensures { λ s. ⌜ Solved rows aside s ⌝ }

@@ -6,48 +6,31 @@ ghost use Rattle.words.specs.Fields.{joined};
 ghost use Rattle.grid.specs.Steps.{mendedRow};
 
 // Places 4 to 7 of the row whose places 0 to 3 hold 0, 1, .. 15.
-const CHECKS: [u8; 16] = [
-    0x0,
-    0xB,
-    0xD,
-    0x6,
-    0x7,
-    0xC,
-    0xA,
-    0x1,
-    0xE,
-    0x5,
-    0x3,
-    0x8,
-    0x9,
-    0x2,
-    0x4,
-    0xF,
-];
+const CHECKS: [u8; 16] = [0, 11, 13, 6, 7, 12, 10, 1, 14, 5, 3, 8, 9, 2, 4, 15];
 
-// For each difference in places 4 to 7: the flips among places 0 to 3; place 4, where one flip or two
-// are needed; place 5, where two are.
+// For each difference in places 4 to 7: the flips among places 0 to 3, and 16 more where one flip or
+// two are needed, and 32 more where two are.
 const FLIPS: [u8; 16] = [
-    0x00,
-    0x10,
-    0x10,
-    0x31,
-    0x10,
-    0x32,
-    0x38,
-    0x14,
-    0x10,
-    0x30,
-    0x30,
-    0x11,
-    0x30,
-    0x12,
-    0x18,
-    0x34,
+    0,
+    16,
+    16,
+    49,
+    16,
+    50,
+    56,
+    20,
+    16,
+    48,
+    48,
+    17,
+    48,
+    18,
+    24,
+    52,
 ];
 
-// What a trial needs of each row, in its byte: the data places put right, and above them whether the
-// row needed one flip or two, and whether it needed two.
+// What a trial needs of each row, in its byte: the data places put right; in place 4, whether the row
+// needed one flip or two; in place 5, whether it needed two.
 pub fn mended(rows: [u8; 8]) -> u64
     ensures { λ r. ⌜ r ≡ joined 8 (map mendedRow rows) ⌝ }
 {

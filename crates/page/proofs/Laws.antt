@@ -11,7 +11,7 @@ use Rattle.words.specs.Fields.{fields, joined}
 use Rattle.words.proofs.Fields.{joined-fields}
 use Rattle.words.proofs.Lists.{partly, partly-at, partly-step}
 use Rattle.codes.specs.Verdict.{Verdict, clean, mended, lost, tie, flipsOf, verdict, repaired, scrubbed}
-use Rattle.codes.specs.Tally.{isClean, isMended, isLost, sumBy}
+use Rattle.codes.specs.Tally.{isClean, isMended, isLost}
 use Rattle.codes.proofs.Promises.{clean-word}
 use Rattle.codes.proofs.Tally.{sum-bound, sum-step, scrubbed-lt, few-flips}
 use Rattle.grid.specs.Answer.{means}

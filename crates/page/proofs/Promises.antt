@@ -1,7 +1,8 @@
 -- What specs/Promises.antt says of a page's scrub holds: by the laws of the tally, which every code has. Assumes nothing.
 use mathlib.Core.Path.{_≡_, refl, sym, ap, ap₂, _∙_, subst}
+use mathlib.Core.Bool.{Bool, true, false}
 use mathlib.Core.List.{List, [], _∷_, map}
-use Prim.Native.Nat.{ℕ, zero, suc, _+_, _^_, _≤_, _<_}
+use Prim.Native.Nat.{ℕ, zero, suc, _+_, _≤_, _<_}
 use native.Mathlib.Nat.{le-of-suc-le-suc}
 use native.Mathlib.Decide.{decLe}
 use native.Mathlib.Omega.{arith}
@@ -11,7 +12,7 @@ use borrow.Author.Tests.{le-leb, lt-leb}
 use Rattle.words.specs.Word.{choose}
 use Rattle.words.proofs.Dist.{eq-of-dist}
 use Rattle.codes.specs.Promises.{Hands}
-use Rattle.codes.specs.Verdict.{clean, mended, lost, tie, verdict, repaired, scrubbed}
+use Rattle.codes.specs.Verdict.{clean, mended, lost, verdict, repaired, scrubbed}
 use Rattle.codes.specs.Tally.{sumBy, TallyPromises}
 use Rattle.codes.proofs.Tally.{tallies}
 use Rattle.grid.specs.Code.{codeword, gridCode}
@@ -25,10 +26,18 @@ use Rattle.page.specs.Promises.{Again, PagePromises}
 -- ---- both sides of the limit
 
 done : {page exit : List ℕ} {r : Outcome} → length page ≤ 512 → Scrubbed page r exit → (r ≡ Done (tallyOf page)) × (exit ≡ map (scrubbed gridCode) page)
-done few s = (s .answer ∙ simp (le-leb _ _ few), s .after ∙ simp (le-leb _ _ few))
+done {page} few s =
+    let e : leb (length page) 512 ≡ true = le-leb (length page) 512 few in (
+      s .answer ∙ ap (λ (b : Bool). choose b (Done (tallyOf page)) Length) e,
+      s .after ∙ ap {B = List ℕ} (λ (b : Bool). choose b (map (scrubbed gridCode) page) page) e,
+    )
 
 refused : {page exit : List ℕ} {r : Outcome} → 512 < length page → Scrubbed page r exit → (r ≡ Length) × (exit ≡ page)
-refused more s = (s .answer ∙ simp (lt-leb _ _ more), s .after ∙ simp (lt-leb _ _ more))
+refused {page} more s =
+    let e : leb (length page) 512 ≡ false = lt-leb (length page) 512 more in (
+      s .answer ∙ ap (λ (b : Bool). choose b (Done (tallyOf page)) Length) e,
+      s .after ∙ ap {B = List ℕ} (λ (b : Bool). choose b (map (scrubbed gridCode) page) page) e,
+    )
 
 -- what was done, and is no refusal
 tally-in : Outcome → Tally → Tally

@@ -7,7 +7,7 @@ use Rattle.codes.specs.Verdict.{clean, mended, lost, tie, verdict, scrubbed}
 use Rattle.grid.specs.Code.{codeword, gridCode}
 use Rattle.page.specs.declared.Tally.{Tally}
 use Rattle.page.specs.declared.Outcome.{Outcome}
-use Rattle.page.specs.declared.Outcome.the-variants.{Done, Length}
+use Rattle.page.specs.declared.Outcome.the-variants.{Done}
 use Rattle.page.specs.Calls.{Scrubbed, numberOf}
 
 -- what a second scrub finds, and leaves

@@ -1,5 +1,5 @@
 -- What the private steps of a scrub compute, so that their contracts can say it. No promise to a caller cites this file. Assumes nothing.
-use Prim.Native.Nat.{ℕ, _+_, _<_, _^_}
+use Prim.Native.Nat.{_+_, _<_, _^_}
 use Rattle.codes.specs.Verdict.{Verdict, flipsOf}
 use Rattle.codes.specs.Tally.{isClean, isMended, isLost}
 use Rattle.page.specs.declared.Tally.{Tally}

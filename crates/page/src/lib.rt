@@ -3,7 +3,7 @@
 //
 // specs/Calls.antt says what a scrub answers and leaves, specs/Promises.antt what is proved of it.
 ghost use mathlib.Core.Path.{_≡_};
-ghost use Prim.Native.Nat.{_+_, _<_, _^_};
+ghost use Prim.Native.Nat.{_+_, _<_};
 ghost use Rattle.codes.specs.Verdict.{verdict, scrubbed};
 ghost use Rattle.grid.specs.Answer.{means};
 ghost use Rattle.grid.specs.Code.{gridCode};
@@ -89,8 +89,9 @@ impl Tally {
         let answer = grid.mend();
         let verdict = answer.verdict;
         let repaired = answer.grid;
+        let number = repaired.number();
         Step {
-            word: repaired.number(),
+            word: number,
             tally: self.counted(verdict),
         }
     }

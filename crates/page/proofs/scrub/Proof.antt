@@ -1,18 +1,21 @@
 -- `page::scrub` meets its contract: grid after grid, by the laws of a turn. Assumes nothing.
-use mathlib.Core.Path.{_≡_, refl, ap, _∙_}
-use mathlib.Core.List.{List}
+use mathlib.Core.Path.{_≡_, refl, sym, ap, _∙_}
+use mathlib.Core.Bool.{Bool, true, false}
+use mathlib.Core.List.{List, map}
 use Prim.Native.Nat.{ℕ, _-_, _≤_, _<_}
 use native.Mathlib.Omega.{arith}
+use lib.Dec.{leb}
 use lib.ListN.{length, take, length-set}
 use lib.Seq.{take-all}
 use borrow.Author.Tests.{le-leb, lt-leb}
 use denote.Ref.{now}
+use Rattle.words.specs.Word.{choose}
 use Rattle.words.proofs.Lists.{partly, partly-none, partly-all}
 use Rattle.codes.specs.Verdict.{scrubbed}
 use Rattle.codes.specs.Tally.{sumBy}
 use Rattle.grid.specs.Code.{gridCode}
 use Rattle.page.specs.Calls.{tallyOf}
-use Rattle.page.specs.declared.Outcome.the-variants.{Done}
+use Rattle.page.specs.declared.Outcome.the-variants.{Done, Length}
 use Rattle.page.proofs.Laws.{turn-page, turn-tally, turn-roomy}
 use borrow.Author.Needs.{needs}
 use Rattle.page.proofs.scrub.Statement.{statement}
@@ -26,7 +29,13 @@ abbrev μ-loop : tie.MeasureT-loop
 μ-loop page₀ tally₀ i₀ page tally i = length page₀ - i
 
 returns : tie.Need-returns Inv-loop μ-loop
-returns c = record { answer = simp (lt-leb _ _ (c .if1 .taken)); after = simp (lt-leb _ _ (c .if1 .taken)) }
+returns c =
+    let p : List ℕ = now (c .before .before .args .page) in
+    let more : leb (length p) 512 ≡ false = lt-leb (length p) 512 (c .if1 .taken) in
+    record {
+      answer = sym (ap (λ (b : Bool). choose b (Done (tallyOf p)) Length) more);
+      after = sym (ap {B = List ℕ} (λ (b : Bool). choose b (map (scrubbed gridCode) p) p) more);
+    }
 
 loop-holds : tie.Need-loop-holds Inv-loop μ-loop
 unfolding sumBy
@@ -57,11 +66,13 @@ returns-2 : tie.Need-returns-2 Inv-loop μ-loop
 returns-2 c =
     let l = c .before .loop in
     let p : List ℕ = now (c .before .before .before .before .before .args .page) in
-    let few : length p ≤ 512 = omega arith in
     let all : length p ≤ l .i = omega arith in
+    let few : leb (length p) 512 ≡ true = le-leb (length p) 512 (omega arith) in
     record {
-      answer = simp (le-leb _ _ few) (ap Done (l .inv .2 ∙ ap tallyOf (take-all _ _ all)));
-      after = simp (le-leb _ _ few) (l .inv .1 ∙ partly-all (scrubbed gridCode) p (l .i) all);
+      answer = ap Done (l .inv .2 ∙ ap tallyOf (take-all (l .i) p all)) ∙ sym (ap (λ (b : Bool). choose b (Done (tallyOf p)) Length) few);
+      after =
+          l .inv .1 ∙ partly-all (scrubbed gridCode) p (l .i) all
+          ∙ sym (ap {B = List ℕ} (λ (b : Bool). choose b (map (scrubbed gridCode) p) p) few);
     }
 
 pub scrub-spec : {M : Type 1} → statement M

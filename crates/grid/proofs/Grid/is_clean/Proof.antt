@@ -1,7 +1,7 @@
 -- `grid::Grid::is_clean` meets its contract: a clean word is the grid of its data places. Assumes nothing.
 use mathlib.Core.List.{List}
 use Prim.Native.Nat.{ℕ, _^_, _<_}
-use lib.ListN.{length, getD}
+use lib.ListN.{getD}
 use mir.Syntax.{w8}
 use mir.Val.{Fits}
 use Rattle.grid.proofs.Verdicts.{judged}

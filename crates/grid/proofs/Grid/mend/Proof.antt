@@ -1,7 +1,7 @@
 -- `grid::Grid::mend` meets its contract: each of its three answers is the verdict. Assumes nothing.
 use mathlib.Core.List.{List}
 use Prim.Native.Nat.{ℕ}
-use lib.ListN.{length, getD}
+use lib.ListN.{getD}
 use mir.Syntax.{w8}
 use mir.Val.{Fits}
 use Rattle.grid.proofs.Verdicts.{is-lost, mends-clean, mends}

@@ -1,7 +1,7 @@
 -- `grid::columns::named` meets its contract: the three parities are the address that the entries of the column combine to, and one row has
 -- it. Assumes nothing.
 use mathlib.Core.Path.{_≡_, sym, ap, ap₂, _∙_}
-use Prim.Native.Nat.{ℕ, _+_, _*_, _/_, _%_, _^_, _<_, min}
+use Prim.Native.Nat.{ℕ, _+_, _*_, _/_, _%_, _<_, min}
 use native.Mathlib.Omega.{arith}
 use lib.Bits.{bitAnd, bitXor, differ}
 use lib.Dec.{eqb}

@@ -2,7 +2,7 @@
 use mathlib.Core.Path.{_≡_, sym, ap, _∙_}
 use Prim.Native.Nat.{ℕ, _%_, _^_, _<_}
 use lib.Dec.{eqb}
-use Rattle.words.specs.Word.{bit, sumTo}
+use Rattle.words.specs.Word.{bit}
 use Rattle.words.proofs.Fields.{bit-fields}
 use Rattle.words.proofs.Linear.{Linear, same, _⊕_, shr, shl, then, field, total, bit-total, agree}
 use Rattle.words.proofs.Sum.{sum-eq}

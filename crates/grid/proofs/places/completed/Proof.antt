@@ -1,6 +1,6 @@
 -- `grid::places::completed` meets its contract: the two halves are those of the codeword. Assumes nothing.
 use mathlib.Core.Path.{_≡_, ap₂, _∙_}
-use Prim.Native.Nat.{ℕ, _*_, _/_, _%_, _^_, _<_}
+use Prim.Native.Nat.{ℕ, _*_, _%_, _^_}
 use lib.Bits.{bitOr}
 use Rattle.words.proofs.Fields.{both-parts}
 use Rattle.grid.specs.Code.{codeword}

@@ -1,5 +1,5 @@
 -- `grid::rows::mended` meets its contract: row after row, from the highest, each as tested over all 256 rows. Assumes nothing.
-use mathlib.Core.Path.{_≡_, sym, ap, ap₂, _∙_, subst}
+use mathlib.Core.Path.{_≡_, sym, ap, ap₂, _∙_}
 use mathlib.Core.List.{List, [], _∷_, map}
 use Prim.Native.Nat.{ℕ, suc, _+_, _-_, _*_, _/_, _%_, _^_, _≤_, _<_}
 use native.Mathlib.Nat.{lt-of-lt-of-le}
@@ -27,11 +27,10 @@ use Rattle.grid.proofs.rows.mended.Tie as tie
 
 -- the tables of the code
 abbrev checks : List ℕ
-checks = 0x0 ∷ 0xB ∷ 0xD ∷ 0x6 ∷ 0x7 ∷ 0xC ∷ 0xA ∷ 0x1 ∷ 0xE ∷ 0x5 ∷ 0x3 ∷ 0x8 ∷ 0x9 ∷ 0x2 ∷ 0x4 ∷ 0xF ∷ []
+checks = 0 ∷ 11 ∷ 13 ∷ 6 ∷ 7 ∷ 12 ∷ 10 ∷ 1 ∷ 14 ∷ 5 ∷ 3 ∷ 8 ∷ 9 ∷ 2 ∷ 4 ∷ 15 ∷ []
 
 abbrev flips : List ℕ
-flips =
-    0x00 ∷ 0x10 ∷ 0x10 ∷ 0x31 ∷ 0x10 ∷ 0x32 ∷ 0x38 ∷ 0x14 ∷ 0x10 ∷ 0x30 ∷ 0x30 ∷ 0x11 ∷ 0x30 ∷ 0x12 ∷ 0x18 ∷ 0x34 ∷ []
+flips = 0 ∷ 16 ∷ 16 ∷ 49 ∷ 16 ∷ 50 ∷ 56 ∷ 20 ∷ 16 ∷ 48 ∷ 48 ∷ 17 ∷ 48 ∷ 18 ∷ 24 ∷ 52 ∷ []
 
 abbrev check : ℕ → ℕ
 check x = bitXor (getD checks (x % 16) 0) (x / 16)

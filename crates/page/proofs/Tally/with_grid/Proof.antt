@@ -1,9 +1,6 @@
 -- `page::Tally::with_grid` meets its contract: a clean grid stays, any other is put right as its verdict says. Assumes nothing.
-use mathlib.Core.Path.{_≡_, sym, ap, _∙_, subst}
-use Prim.Native.Nat.{ℕ}
-use Rattle.codes.specs.Verdict.{clean, verdict}
+use mathlib.Core.Path.{sym, ap, _∙_, subst}
 use Rattle.grid.specs.Calls.{Judged}
-use Rattle.grid.specs.Code.{gridCode}
 use Rattle.page.specs.Steps.{counted, Roomy}
 use Rattle.page.proofs.Laws.{decoded-clean, decoded-verdict, decoded-number}
 use borrow.Author.Needs.{needs}
