@@ -19,6 +19,13 @@ one-kind (mended d n) = refl
 one-kind lost = refl
 one-kind tie = refl
 
+-- one that counts as clean is
+pub clean-of : (v : Verdict) → isClean v ≡ 1 → (d : ℕ) × (v ≡ clean d)
+clean-of (clean d) e = (d, refl)
+clean-of (mended d n) e = absurd (omega (arith, e))
+clean-of lost e = absurd (omega (arith, e))
+clean-of tie e = absurd (omega (arith, e))
+
 -- the verdict on a word that was scrubbed
 settles : Verdict → Verdict
 settles (clean d) = clean d

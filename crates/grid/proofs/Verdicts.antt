@@ -17,6 +17,7 @@ use Rattle.words.proofs.Fields.{Below}
 use Rattle.codes.specs.Verdict.{Verdict, clean, mended, lost, tie, answered, verdict, repaired, scrubbed}
 use Rattle.codes.specs.Tally.{isClean}
 use Rattle.codes.proofs.Promises.{none-near, found, clean-word}
+use Rattle.codes.proofs.Tally.{clean-of}
 use Rattle.grid.specs.Code.{codeword, gridCode}
 use Rattle.grid.specs.Calls.{Judged, Decoded}
 use Rattle.grid.specs.Steps.{Nearby}
@@ -72,22 +73,13 @@ module _ (rows : List ℕ) (eight : length rows ≡ 8) (small : Below 8 rows) (w
   pub is-clean : (places data₁ : ℕ) → data₁ < 2 ^ 16 → places ≡ bitAnd word 0x0F0F_0F0F
       → (bitAnd places 0x0F0F_0F0F ≡ places → bitAnd (codeword data₁) 0x0F0F_0F0F ≡ places) → Judged rows true
       → Decoded rows (record { verdict = Clean data₁; grid = record { rows = rows } })
-  is-clean places e l taken read j = go (verdict gridCode (joined 8 rows)) refl
-    where
-      -- the answer was yes
-      yes-clean : {v : Verdict} → verdict gridCode (joined 8 rows) ≡ v → isClean v ≡ 1
-      yes-clean p = sym (ap isClean p) ∙ eqb-true (isClean (verdict gridCode (joined 8 rows))) 1 (sym (j .answer))
-
-      go : (v : Verdict) → verdict gridCode (joined 8 rows) ≡ v → Decoded rows (record { verdict = Clean e; grid = record { rows = rows } })
-      go (clean d) p =
-          let (b, w) = clean-word gridCode (promised .verdicts) (joined 8 rows) d p in
-          record {
-            answer = ap clean (taken-data word places e l taken read d b (is ∙ w)) ∙ sym p;
-            repaired = sym as-read ∙ ap (fields 8 8) (w ∙ sym (ap (repaired gridCode (joined 8 rows)) p));
-          }
-      go (mended d n) p = absurd (omega (arith, yes-clean p))
-      go lost p = absurd (omega (arith, yes-clean p))
-      go tie p = absurd (omega (arith, yes-clean p))
+  is-clean places e l taken read j =
+      let (d, p) = clean-of (verdict gridCode (joined 8 rows)) (eqb-true (isClean (verdict gridCode (joined 8 rows))) 1 (sym (j .answer))) in
+      let (b, w) = clean-word gridCode (promised .verdicts) (joined 8 rows) d p in
+      record {
+        answer = ap clean (taken-data word places e l taken read d b (is ∙ w)) ∙ sym p;
+        repaired = sym as-read ∙ ap (fields 8 8) (w ∙ sym (ap (repaired gridCode (joined 8 rows)) p));
+      }
 
   -- ---- by the trials
 

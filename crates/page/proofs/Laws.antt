@@ -1,5 +1,5 @@
 -- A turn of the scrub's loop, over plain values: one grid more is put right and counted. Assumes nothing.
-use mathlib.Core.Path.{_≡_, refl, sym, ap, _∙_}
+use mathlib.Core.Path.{_≡_, sym, ap, _∙_, subst}
 use mathlib.Core.Bool.{true}
 use mathlib.Core.List.{List}
 use Prim.Native.Nat.{ℕ, _+_, _^_, _≤_, _<_}
@@ -13,7 +13,7 @@ use Rattle.words.proofs.Lists.{partly, partly-at, partly-step}
 use Rattle.codes.specs.Verdict.{Verdict, clean, mended, lost, tie, flipsOf, verdict, repaired, scrubbed}
 use Rattle.codes.specs.Tally.{isClean, isMended, isLost}
 use Rattle.codes.proofs.Promises.{clean-word}
-use Rattle.codes.proofs.Tally.{sum-bound, sum-step, scrubbed-lt, few-flips}
+use Rattle.codes.proofs.Tally.{clean-of, sum-bound, sum-step, scrubbed-lt, few-flips}
 use Rattle.grid.specs.Answer.{means}
 use Rattle.grid.specs.Calls.{Judged, Decoded}
 use Rattle.grid.specs.Code.{gridCode}
@@ -39,22 +39,18 @@ decoded-number w n rows a l e d p =
 pub decoded-clean : (w : ℕ) (rows : List ℕ) → w < 2 ^ 64 → rows ≡ fields 8 8 w → Judged rows true
     → (w ≡ scrubbed gridCode w)
     × ((t : Tally) → (counted t (clean 0) ≡ counted t (verdict gridCode w)) × (Roomy t (verdict gridCode w) → Roomy t (clean 0)))
-decoded-clean w rows l e j = go (verdict gridCode w) refl
-  where
-    yes-clean : {v : Verdict} → verdict gridCode w ≡ v → isClean v ≡ 1
-    yes-clean p =
-        sym (ap isClean (ap (verdict gridCode) (ap (joined 8) e ∙ joined-fields 8 8 w l) ∙ p))
-        ∙ eqb-true (isClean (verdict gridCode (joined 8 rows))) 1 (sym (j .answer))
-
-    go : (v : Verdict) → verdict gridCode w ≡ v
-        → (w ≡ repaired gridCode w v) × ((t : Tally) → (counted t (clean 0) ≡ counted t v) × (Roomy t v → Roomy t (clean 0)))
-    go (clean d) p = (
-      clean-word gridCode (grid.promised .verdicts) w d p .1,
-      λ t. (refl, λ r. record { grids = r .grids; clean = r .clean; mended = r .mended; lost = r .lost; flips = r .flips }),
+decoded-clean w rows l e j =
+    let same : joined 8 rows ≡ w = ap (joined 8) e ∙ joined-fields 8 8 w l in
+    let (d, p) = clean-of (verdict gridCode (joined 8 rows)) (eqb-true (isClean (verdict gridCode (joined 8 rows))) 1 (sym (j .answer))) in
+    let v : verdict gridCode w ≡ clean d = sym (ap (verdict gridCode) same) ∙ p in (
+      clean-word gridCode (grid.promised .verdicts) w d v .1 ∙ sym (ap (repaired gridCode w) v),
+      λ t. (
+        ap (counted t) (sym v),
+        λ r.
+            let s : Roomy t (clean d) = subst (Roomy t) v r in
+            record { grids = s .grids; clean = s .clean; mended = s .mended; lost = s .lost; flips = s .flips },
+      ),
     )
-    go (mended d n) p = absurd (omega (arith, yes-clean p))
-    go lost p = absurd (omega (arith, yes-clean p))
-    go tie p = absurd (omega (arith, yes-clean p))
 
 -- ---- the bounds
 
