@@ -1,6 +1,7 @@
 -- How a trial puts a column right. Besides the rows set aside at most one row is wrong where one row or none is set aside, and none where
 -- two or three are. In a column of even parity one row is switched first, so that each column is odd; an odd column is one place from a word
--- of the column code, and its entries name that place. What comes out is in the code, and too near to the codeword sought to be another.
+-- of the column code, and its entries name that place. What comes out is in the code. It is too near to the codeword sought to be another;
+-- or it is four places from it, and these are the three rows set aside and the place named.
 -- Assumes nothing.
 use mathlib.Core.Path.{_≡_, refl, sym, ap, ap₂, _∙_, subst}
 use mathlib.Core.Logic.{_⊎_, inl, inr}
@@ -13,7 +14,7 @@ use lib.Bits.{bitXor, differ, xor-self}
 use lib.Dec.{T, eqb}
 use lib.ListN.{length, getD}
 use Rattle.words.specs.Word.{choose, combined, sumTo}
-use Rattle.words.proofs.Bit.{by-bit, bit-cases, odd-lt, differ-lt, differ-zero, differ-self, eq-of-differ}
+use Rattle.words.proofs.Bit.{bit-cases, odd-lt, differ-lt, differ-zero, differ-self, differ-back, differ-one, differ-more, eq-of-differ, min-one, min-bit}
 use Rattle.words.proofs.Linear.{combined-differ}
 use Rattle.words.proofs.Sum.{sum-le, sum-none, sum-add, sum-zero, sum-tight, sum-differ}
 use Rattle.codes.specs.Product.{Same}
@@ -28,7 +29,7 @@ only zero (suc r) = 0
 only (suc a) zero = 0
 only (suc a) (suc r) = only a r
 
-pub only-lt : (a r : ℕ) → only a r < 2
+only-lt : (a r : ℕ) → only a r < 2
 only-lt zero zero = omega arith
 only-lt zero (suc r) = omega arith
 only-lt (suc a) zero = omega arith
@@ -49,29 +50,6 @@ sum-only : (n a b : ℕ) → a < n → b < 2 → sumTo n (λ r. min (only a r) b
 sum-only zero a b h l = absurd (omega arith)
 sum-only (suc n) zero b h l = omega (arith, sum-none n (λ r. min 0 b) (λ r h. omega arith))
 sum-only (suc n) (suc a) b h l = omega (arith, sum-only n a b (le-of-suc-le-suc h) l)
-
--- ---- bits
-
-min-one : (x : ℕ) → x < 2 → min x 1 ≡ x
-min-one x h = by-bit (λ (x : ℕ). min x 1 ≡ x) refl refl x h
-
-min-bit : (x y : ℕ) → x < 2 → min x y < 2
-min-bit x y h = omega arith
-
-flipped : (x y : ℕ) → x < 2 → y < 2 → differ x y ≡ 1 → differ x 1 ≡ y
-flipped x y hx hy e =
-    by-bit (λ (x : ℕ). differ x y ≡ 1 → differ x 1 ≡ y) (λ e. sym e)
-    (by-bit (λ (y : ℕ). differ 1 y ≡ 1 → differ 1 1 ≡ y) (λ e. refl) (λ e. absurd (omega arith)) y hy) x hx e
-
-back : (x p : ℕ) → x < 2 → p < 2 → differ (differ x p) x ≡ p
-back x p hx hp =
-    by-bit (λ (x : ℕ). differ (differ x p) x ≡ p) (differ-zero p) (by-bit (λ (p : ℕ). differ (differ 1 p) 1 ≡ p) refl refl p hp) x hx
-
--- one more flip is one place more, at most
-one-more : (x p y : ℕ) → x < 2 → p < 2 → y < 2 → differ (differ x p) y ≤ differ x y + p
-one-more x p y hx hp hy =
-    by-bit (λ (p : ℕ). differ (differ x p) y ≤ differ x y + p) (rw differ-zero (omega arith))
-    (omega (arith, differ-lt (differ x 1) y (differ-lt x 1 hx (omega arith)) hy)) p hp
 
 -- where row a alone is set aside, no other is
 pub lone : (n a : ℕ) (g : ℕ → ℕ) → a < n → g a ≡ 1 → sumTo n g ≤ 1 → (r : ℕ) → r < n → only a r ≡ g r
@@ -198,7 +176,7 @@ module _ (hs : List ℕ) (m : ℕ) (P : Perfect hs m) (f : ℕ → ℕ) (a : ℕ
               let d : differ (g r) 1 ≡ 1 = ap (λ (x : ℕ). differ x 1) z in
               omega (
                 arith,
-                one-more (f r) (at hs f a r) (y r) (bits r) (at-bit r) (y-bit r),
+                differ-more (f r) (at hs f a r) (y r) (bits r) (at-bit r) (y-bit r),
                 ap (λ (x : ℕ). differ (differ x (at hs f a r)) (y r)) (odd-other r e),
                 differ-lt (f r) (y r) (bits r) (y-bit r),
               )
@@ -255,7 +233,7 @@ module _ (hs : List ℕ) (m : ℕ) (P : Perfect hs m) (f : ℕ → ℕ) (a : ℕ
           go : (g r ≡ 0) ⊎ (g r ≡ 1) → (differ (one hs f a r) (y r) ≤ g r + outside hs g f a r) × (outside hs g f a r ≤ differ (one hs f a r) (y r))
           go (inl e) =
               let d : differ (one hs f a r) (y r) ≡ at hs f a r =
-              ap (λ (x : ℕ). differ (differ x (at hs f a r)) (y r)) (as-read r h e) ∙ back (y r) (at hs f a r) (y-bit r) (at-bit r) in
+              ap (λ (x : ℕ). differ (differ x (at hs f a r)) (y r)) (as-read r h e) ∙ differ-back (y r) (at hs f a r) (y-bit r) (at-bit r) in
               (omega (arith, d, record-out r e), omega (arith, d, record-out r e))
           go (inr e) = (omega (arith, differ-lt (one hs f a r) (y r) (one-bit r) (y-bit r)), omega (arith, record-in r e))
 
@@ -313,7 +291,7 @@ module _ (hs : List ℕ) (m : ℕ) (P : Perfect hs m) (f : ℕ → ℕ) (a : ℕ
               ∙ differ-zero (differ (odd hs f a r) 0) ∙ differ-zero (odd hs f a r) ∙ as-read r h e
           go (inr e) =
               ap₂ (λ (x y : ℕ). differ (differ (odd hs f a r) x) (min 1 y)) (record-in r e .0) e
-              ∙ flipped (one hs f a r) (y r) (one-bit r) (y-bit r) (omega (arith, all, record-in r e))
+              ∙ differ-one (one hs f a r) (y r) (one-bit r) (y-bit r) (omega (arith, all, record-in r e))
 
       pub several-right : Same (length hs) (several hs g f a) y
       several-right r h = go (bit-cases (sumTo (length hs) (outside hs g f a)) (omega (arith, few-outside)))

@@ -76,10 +76,10 @@ module _ (C : Code) where
   sum-two f g h e [] = refl
   sum-two f g h e (w ∷ ws) = omega (arith, e (verdict C w), sum-two f g h e ws)
 
-  sum-none : (ws : List ℕ) → sumBy C (λ v. 0) ws ≡ 0
+  sum-of-none : (ws : List ℕ) → sumBy C (λ v. 0) ws ≡ 0
   unfolding sumBy
-  sum-none [] = refl
-  sum-none (w ∷ ws) = omega (arith, sum-none ws)
+  sum-of-none [] = refl
+  sum-of-none (w ∷ ws) = omega (arith, sum-of-none ws)
 
   sum-all : (ws : List ℕ) → length ws ≡ sumBy C isClean ws + sumBy C isMended ws + sumBy C isLost ws
   unfolding sumBy
@@ -104,8 +104,8 @@ module _ (C : Code) where
 
   module _ (P : Promises C) where
     -- the data of a verdict is a data value, and its flips are within the radius
-    handed : (w : ℕ) (v : Verdict) → verdict C w ≡ v → (d n : ℕ) → Hands v d n → (d < C .values) × (n ≤ C .radius)
-    handed w v e d n h =
+    in-range : (w : ℕ) (v : Verdict) → verdict C w ≡ v → (d n : ℕ) → Hands v d n → (d < C .values) × (n ≤ C .radius)
+    in-range w v e d n h =
         let g : Hands (verdict C w) d n = subst (λ v. Hands v d n) (sym e) h in
         (P .demand3 w .within d n g .0, omega (arith, P .demand3 w .flips d n g, P .demand3 w .within d n g .1))
 
@@ -114,7 +114,7 @@ module _ (C : Code) where
       where
         go : (v : Verdict) → verdict C w ≡ v → flipsOf v ≤ C .radius
         go (clean d) e = omega arith
-        go (mended d n) e = handed w (mended d n) e d n (refl, refl) .1
+        go (mended d n) e = in-range w (mended d n) e d n (refl, refl) .1
         go lost e = omega arith
         go tie e = omega arith
 
@@ -125,8 +125,8 @@ module _ (C : Code) where
       where
         go : (v : Verdict) → verdict C w ≡ v
             → (verdict C (repaired C w v) ≡ settles v) × (repaired C (repaired C w v) (settles v) ≡ repaired C w v)
-        go (clean d) e = (P .unharmed d (handed w (clean d) e d 0 (refl, refl) .0), refl)
-        go (mended d n) e = (P .unharmed d (handed w (mended d n) e d n (refl, refl) .0), refl)
+        go (clean d) e = (P .unharmed d (in-range w (clean d) e d 0 (refl, refl) .0), refl)
+        go (mended d n) e = (P .unharmed d (in-range w (mended d n) e d n (refl, refl) .0), refl)
         go lost e = (e, refl)
         go tie e = (e, refl)
 
@@ -135,18 +135,26 @@ module _ (C : Code) where
     scrubbed-lt b fits w l = go (verdict C w) refl
       where
         go : (v : Verdict) → verdict C w ≡ v → repaired C w v < b
-        go (clean d) e = fits d (handed w (clean d) e d 0 (refl, refl) .0)
-        go (mended d n) e = fits d (handed w (mended d n) e d n (refl, refl) .0)
+        go (clean d) e = fits d (in-range w (clean d) e d 0 (refl, refl) .0)
+        go (mended d n) e = fits d (in-range w (mended d n) e d n (refl, refl) .0)
         go lost e = l
         go tie e = l
+
+    again-clean : (ws : List ℕ) → sumBy C isClean (map (scrubbed C) ws) ≡ sumBy C isClean ws + sumBy C isMended ws
+    again-clean ws =
+        sum-map C isClean (λ v. isClean v + isMended v) (scrubbed C) (λ w. ap isClean (settled w .0) ∙ settled-clean (verdict C w)) ws
+        ∙ sum-two isClean isMended (λ v. isClean v + isMended v) (λ v. refl) ws
+
+    again-none : (f : Verdict → ℕ) → ((v : Verdict) → f (settles v) ≡ 0) → (ws : List ℕ) → sumBy C f (map (scrubbed C) ws) ≡ 0
+    again-none f h ws = sum-map C f (λ v. 0) (scrubbed C) (λ w. ap f (settled w .0) ∙ h (verdict C w)) ws ∙ sum-of-none ws
 
     pub tallies : TallyPromises C
     tallies = record {
       all = sum-all;
       flips = sum-bound flipsOf (C .radius) few-flips;
-      again-clean = λ ws. sum-map C isClean (λ v. isClean v + isMended v) (scrubbed C) (λ w. ap isClean (settled w .0) ∙ settled-clean (verdict C w)) ws ∙ sum-two isClean isMended (λ v. isClean v + isMended v) (λ v. refl) ws;
-      again-mended = λ ws. sum-map C isMended (λ v. 0) (scrubbed C) (λ w. ap isMended (settled w .0) ∙ settled-mended (verdict C w)) ws ∙ sum-none ws;
+      again-clean = again-clean;
+      again-mended = again-none isMended settled-mended;
       again-lost = sum-map C isLost isLost (scrubbed C) (λ w. ap isLost (settled w .0) ∙ settled-lost (verdict C w));
-      again-flips = λ ws. sum-map C flipsOf (λ v. 0) (scrubbed C) (λ w. ap flipsOf (settled w .0) ∙ settled-flips (verdict C w)) ws ∙ sum-none ws;
+      again-flips = again-none flipsOf settled-flips;
       again = λ w. ap (repaired C (scrubbed C w)) (settled w .0) ∙ settled w .1;
     }

@@ -35,7 +35,7 @@ sumBy C f (w ∷ ws) = f (verdict C w) + sumBy C f ws
 pub record TallyPromises (C : Code) : Type 0 where
   -- each word is clean, mended or lost
   pub all : (ws : List ℕ) → length ws ≡ sumBy C isClean ws + sumBy C isMended ws + sumBy C isLost ws
-  -- a mended word has at most radius flips
+  -- no more flips than the radius for each word
   pub flips : (ws : List ℕ) → sumBy C flipsOf ws ≤ C .radius * length ws
   -- a second scrub finds clean and mended words clean, the same lost, none mended, no flips, ..
   pub again-clean : (ws : List ℕ) → sumBy C isClean (map (scrubbed C) ws) ≡ sumBy C isClean ws + sumBy C isMended ws

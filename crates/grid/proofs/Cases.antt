@@ -31,7 +31,7 @@ apart w d = sumTo 8 (λ r. dist (rowOf w r) (rowOf (codeword d) r))
 near? : ℕ → ℕ → ℕ → Bool
 near? w d n = both (ltb w (2 ^ 64)) (both (ltb d (2 ^ 16)) (both (eqb (apart w d) n) (leb n 7)))
 
--- a word eight places from a codeword is lost
+-- a word eight places from the grid of 0 is lost
 lost? : ℕ → Bool
 lost? w = both (ltb w (2 ^ 64)) (eqb (apart w 0) 8)
 

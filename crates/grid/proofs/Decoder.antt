@@ -11,9 +11,9 @@ use lib.Bits.{bitAnd, bitXor, differ, and-le-r, mask-lt}
 use lib.Dec.{lit<}
 use lib.ListN.{length, getD, length-map}
 use Rattle.words.specs.Word.{bit, dist, combined}
-use Rattle.words.specs.Fields.{fields, joined}
+use Rattle.words.specs.Fields.{joined}
 use Rattle.words.proofs.Bit.{bit-lt, bit-and, bit-low, bit-shr, eq-of-bits}
-use Rattle.words.proofs.Fields.{Below, bit-fields, fields-below, fields-joined, dist-fields}
+use Rattle.words.proofs.Fields.{Below, bit-fields, fields-below, dist-fields}
 use Rattle.words.proofs.Linear.{Linear, same, _⊕_, shr, mask, then, combined-eq, agree}
 use Rattle.words.proofs.Sum.{sum-eq}
 use Rattle.words.proofs.Test.{same-below}
@@ -25,6 +25,7 @@ use Rattle.grid.specs.Code.{codeword}
 use Rattle.grid.specs.Steps.{rowEntries, colEntries, sides, rowOf, fixed, mendedRow, Mended, Agrees, Solved, Tried, Nearby}
 use Rattle.grid.proofs.Codeword.{grids, eighth}
 use Rattle.grid.proofs.Distance.{in-product, codeword-lt}
+use Rattle.grid.proofs.Promises.{promised}
 use Rattle.grid.proofs.Repair.{repair, kept, kept-row, kept-below}
 
 -- ---- data places
@@ -75,14 +76,12 @@ column-code d l c h =
 -- the word read, by its rows
 module _ (rows : List ℕ) (n : length rows ≡ 8) (small : Below 8 rows) where
   word-row : (r : ℕ) → rowOf (joined 8 rows) r ≡ getD rows r 0
-  word-row r = ap (λ (l : List ℕ). getD l r 0) (sym (ap (λ (m : ℕ). fields 8 m (joined 8 rows)) n) ∙ fields-joined 8 rows small)
+  word-row r = ap (λ (l : List ℕ). getD l r 0) (promised .back-and-there rows n small)
 
   -- what the code keeps of them
   pub made-row : Mended (joined 8 rows) (joined 8 (map mendedRow rows))
   made-row r =
-      ap (λ (l : List ℕ). getD l r 0)
-      (sym (ap (λ (m : ℕ). fields 8 m (joined 8 (map mendedRow rows))) (length-map rows mendedRow ∙ n))
-      ∙ fields-joined 8 (map mendedRow rows) (kept-below rows))
+      ap (λ (l : List ℕ). getD l r 0) (promised .back-and-there (map mendedRow rows) (length-map rows mendedRow ∙ n) (kept-below rows))
       ∙ kept-row rows r ∙ ap mendedRow (sym (word-row r))
 
 -- w is the word read, and x what the code keeps of its rows
@@ -150,7 +149,7 @@ module _ (w x : ℕ) (made : Mended w x) where
 
 -- ---- both trials
 
--- what the first trial reached is near, or the second reaches what is
+-- what the first trial reached is too far: then the second reaches what is near
 pub both-trials : (word first m second n : ℕ) → word < 2 ^ 64 → Tried 2 word first m → 7 < m → Tried 1 word second n → Nearby word second n
 both-trials word first m second n fits one far two = record {
   reached = two .reached;

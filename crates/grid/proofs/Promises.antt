@@ -1,6 +1,6 @@
 -- What specs/Promises.antt says of the grid holds. Assumes nothing.
 use mathlib.Core.Path.{_≡_, refl, sym, ap, _∙_, subst}
-use mathlib.Core.Logic.{_⊎_, inl, inr}
+use mathlib.Core.Logic.{_≢_, _⊎_, inl, inr}
 use mathlib.Core.List.{List}
 use Prim.Native.Nat.{ℕ, zero, suc, _*_, _^_, _≤_, _<_}
 use native.Mathlib.Nat.{le-trans, le-antisymm}
@@ -11,9 +11,9 @@ use lib.Dec.{lit<, lit≤}
 use lib.ListN.{length, getD}
 use Rattle.words.specs.Word.{bit, dist}
 use Rattle.words.specs.Fields.{fields, joined}
-use Rattle.words.proofs.Fields.{bit-fields, joined-fields, fields-joined, dist-fields}
+use Rattle.words.proofs.Fields.{bit-fields, joined-lt, joined-fields, fields-joined, dist-fields}
 use Rattle.words.proofs.Sum.{sum-eq, sum-bits}
-use Rattle.codes.specs.Verdict.{Verdict, clean, mended, lost, tie, answered, verdict, flipsOf, refusal, repaired, scrubbed}
+use Rattle.codes.specs.Verdict.{Verdict, clean, mended, lost, tie, IsVerdict, answered, verdict, flipsOf, refusal, repaired, scrubbed}
 use Rattle.codes.specs.Promises.{States, Demand3}
 use Rattle.codes.proofs.Promises.{every-code}
 use Rattle.codes.proofs.Tally.{scrubbed-lt}
@@ -77,17 +77,20 @@ module _ (rows : List ℕ) (r : Answer) (h : Decoded rows r) where
       go lost e = inr refl
       go tie e = absurd (promised .verdicts .no-tie (joined 8 rows) (sym e))
 
-  as-read : length rows ≡ 8 → ((i : ℕ) → getD rows i 0 < 2 ^ 8) → numberOf (r .verdict) ≡ 1 → r .grid .rows ≡ rows
-  as-read n small one = h .repaired ∙ go (means (r .verdict)) (h .answer) one ∙ whole rows n small
+  as-read : length rows ≡ 8 → ((i : ℕ) → getD rows i 0 < 2 ^ 8) → numberOf (r .verdict) ≢ 0 → r .grid .rows ≡ rows
+  as-read n small refused = h .repaired ∙ go (means (r .verdict)) (h .answer) refused ∙ whole rows n small
     where
-      go : (v : Verdict) → v ≡ verdict gridCode (joined 8 rows) → refusal 1 v ≡ 1 → fields 8 8 (scrubbed gridCode (joined 8 rows)) ≡ fields 8 8 (joined 8 rows)
-      go (clean d) e x = absurd (omega (arith, x))
-      go (mended d n) e x = absurd (omega (arith, x))
+      go : (v : Verdict) → v ≡ verdict gridCode (joined 8 rows) → refusal 1 v ≢ 0
+          → fields 8 8 (scrubbed gridCode (joined 8 rows)) ≡ fields 8 8 (joined 8 rows)
+      go (clean d) e x = absurd (x refl)
+      go (mended d n) e x = absurd (x refl)
       go lost e x = ap (λ v. fields 8 8 (repaired gridCode (joined 8 rows) v)) (sym e)
       go tie e x = ap (λ v. fields 8 8 (repaired gridCode (joined 8 rows) v)) (sym e)
 
-  changed : joined 8 rows < 2 ^ 64 → flipsOf (means (r .verdict)) ≡ dist (joined 8 rows) (joined 8 (r .grid .rows))
-  changed l =
+  changed : length rows ≡ 8 → ((i : ℕ) → getD rows i 0 < 2 ^ 8)
+      → flipsOf (means (r .verdict)) ≡ dist (joined 8 rows) (joined 8 (r .grid .rows))
+  changed n small =
+      let l : joined 8 rows < 2 ^ 64 = subst (λ (m : ℕ). joined 8 rows < 2 ^ (m * 8)) n (joined-lt 8 rows small) in
       ap flipsOf (h .answer) ∙ promised .verdicts .changed (joined 8 rows)
       ∙ ap (dist (joined 8 rows))
       (sym (ap (joined 8) (h .repaired)
@@ -141,11 +144,13 @@ same-answer rows a b p q = λ i. record {
 
 pub decode-promised : DecodePromises
 decode-promised = record {
+  is-verdict = λ rows r h. subst (IsVerdict gridCode (joined 8 rows)) (sym (h .answer)) (promised .verdicts .settled (joined 8 rows) .has);
+  only = λ rows r v h p. promised .verdicts .settled (joined 8 rows) .one v p ∙ sym (h .answer);
   demand3 = λ rows r h. subst (Demand3 gridCode (joined 8 rows)) (sym (h .answer)) (promised .verdicts .demand3 (joined 8 rows));
   numbers = numbers;
   no-tie = λ rows r h e. promised .verdicts .no-tie (joined 8 rows) (sym (h .answer) ∙ e);
-  changed = λ rows r l h. changed rows r h l;
-  as-read = λ rows r n small h one. as-read rows r h n small one;
+  changed = λ rows r n small h. changed rows r h n small;
+  as-read = λ rows r n small h refused. as-read rows r h n small refused;
   encoded = λ d rows r l e h.
       let (v, g) = of-word rows r h (codeword d) (clean d) (ap (joined 8) (e .answer) ∙ joined-fields 8 8 (codeword d) (codeword-lt d l)) (promised .verdicts .unharmed d l) in
       (v, g ∙ sym (e .answer));
@@ -153,7 +158,7 @@ decode-promised = record {
   eight = λ d p r l k e h.
       let (v, g) =
       of-word (fields 8 8 (bitXor (codeword d) p)) r h (bitXor (codeword d) p) lost (flipped d p l k) (promised .eight-are-lost d p l e) in
-      (v, ap (refusal 1) v);
+      (v, ap (refusal 1) v, g);
 }
 
 pub one-outcome : OneOutcome

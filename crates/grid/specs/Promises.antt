@@ -9,7 +9,7 @@ use lib.Count.{ones}
 use lib.ListN.{length, getD}
 use Rattle.words.specs.Word.{bit, dist}
 use Rattle.words.specs.Fields.{fields, joined}
-use Rattle.codes.specs.Verdict.{clean, lost, tie, answered, flipsOf}
+use Rattle.codes.specs.Verdict.{Verdict, clean, lost, tie, IsVerdict, answered, flipsOf}
 use Rattle.codes.specs.Promises.{States, Demand3, Promises, OneMoreIsLost}
 use Rattle.grid.specs.Equations.{inRow, dataOf, Codeword}
 use Rattle.grid.specs.Code.{codeword, gridCode}
@@ -39,27 +39,30 @@ pub record GridPromises : Type 0 where
 
 -- What the answer of a decoder promises, whatever was read.
 pub record DecodePromises : Type 0 where
+  -- The verdict is document 01's, and there is no other.
+  pub is-verdict : (rows : List ℕ) (r : Answer) → Decoded rows r → IsVerdict gridCode (joined 8 rows) (means (r .verdict))
+  pub only : (rows : List ℕ) (r : Answer) (v : Verdict) → Decoded rows r → IsVerdict gridCode (joined 8 rows) v → v ≡ means (r .verdict)
   -- Demand 3: data is handed out exactly where some codeword is within 7 places; it is that codeword's, every other is further off, and the
   -- flips are the places that differ.
   pub demand3 : (rows : List ℕ) (r : Answer) → Decoded rows r → Demand3 gridCode (joined 8 rows) (means (r .verdict))
-  -- The number is 0 where data is handed out, and 1 where none is: tie never happens.
+  -- The number is 0 or 1: tie never happens.
   pub numbers : (rows : List ℕ) (r : Answer) → Decoded rows r → (numberOf (r .verdict) ≡ 0) ⊎ (numberOf (r .verdict) ≡ 1)
   pub no-tie : (rows : List ℕ) (r : Answer) → Decoded rows r → means (r .verdict) ≢ tie
   -- The flips are the places in which the repaired grid differs from the grid as read, checks included.
-  pub changed : (rows : List ℕ) (r : Answer) → joined 8 rows < 2 ^ 64 → Decoded rows r
+  pub changed : (rows : List ℕ) (r : Answer) → length rows ≡ 8 → ((i : ℕ) → getD rows i 0 < 2 ^ 8) → Decoded rows r
       → flipsOf (means (r .verdict)) ≡ dist (joined 8 rows) (joined 8 (r .grid .rows))
   -- On refusal the repaired grid is the grid as read.
   pub as-read : (rows : List ℕ) (r : Answer) → length rows ≡ 8 → ((i : ℕ) → getD rows i 0 < 2 ^ 8) → Decoded rows r
-      → numberOf (r .verdict) ≡ 1 → r .grid .rows ≡ rows
+      → numberOf (r .verdict) ≢ 0 → r .grid .rows ≡ rows
   -- Decoding what was encoded gives the same data, verdict clean.
   pub encoded : (d : ℕ) (rows : List ℕ) (r : Answer) → d < 2 ^ 16 → Encoded d rows → Decoded rows r
       → (means (r .verdict) ≡ clean d) × (r .grid .rows ≡ rows)
   -- Up to seven flips of a written grid, checks included, are undone, with the right data and count.
   pub undone : (d p : ℕ) (r : Answer) → d < 2 ^ 16 → p < 2 ^ 64 → ones p ≤ 7 → Decoded (fields 8 8 (bitXor (codeword d) p)) r
       → (means (r .verdict) ≡ answered d (ones p)) × (r .grid .rows ≡ fields 8 8 (codeword d))
-  -- Eight are always lost.
+  -- Eight are always lost, and the grid stays as read.
   pub eight : (d p : ℕ) (r : Answer) → d < 2 ^ 16 → p < 2 ^ 64 → ones p ≡ 8 → Decoded (fields 8 8 (bitXor (codeword d) p)) r
-      → (means (r .verdict) ≡ lost) × (numberOf (r .verdict) ≡ 1)
+      → (means (r .verdict) ≡ lost) × (numberOf (r .verdict) ≡ 1) × (r .grid .rows ≡ fields 8 8 (bitXor (codeword d) p))
 
 -- No second outcome satisfies the statement of a call.
 pub record OneOutcome : Type 0 where

@@ -66,7 +66,7 @@ pub record Agrees (rows aside y c : ℕ) : Type 0 where
       2 * sumTo 8 (λ r. min (differ (inColumn aside 0 r) 1) (differ (inColumn rows c r) (inColumn y c r)))
       + sumTo 8 (inColumn aside 0) ≤ 3
 
--- s has column c of each word in the column code that agrees with the rows there.
+-- Where column c of a word y is in the column code and agrees with the rows, column c of s is the same.
 abbrev pub Solved : ℕ → ℕ → ℕ → Type 0
 Solved rows aside s =
     (y c r : ℕ) → c < 8 → r < 8 → combined colEntries (inColumn y c) ≡ 0 → Agrees rows aside y c → inColumn s c r ≡ inColumn y c r

@@ -11,8 +11,8 @@
 //     row 7   q q q q   q q q   q
 //
 // Each row and each column is a word of a code in which two words differ in at least four places. So
-// the grids of two data values differ in four rows, in four places each: 16 places, and up to seven
-// flips leave a grid nearer to what was written than to the grid of any other value.
+// the grids of two data values differ in four rows or more, in four places or more of each: in 16 places
+// at least, and up to seven flips leave a grid nearer to what was written than to the grid of any other value.
 //
 // The decoder puts each row right, sets aside those that it cannot be sure of, and lets the columns
 // decide (rows, columns, trial). What it hands out it has counted: a codeword within seven places.

@@ -1,6 +1,6 @@
-// The two trials. Row by row, what both together pay for a codeword is at most the places in which the
-// row differs from the codeword's; seven places cannot pay for both. So a codeword within seven is
-// reached by one of them.
+// The two trials. A trial pays 1 for a row that it sets aside and 2 for any other row that it has wrong,
+// and reaches a codeword for which it pays 3 at most. Row by row both together pay no more than the
+// places that differ, so a codeword within seven is reached by one of them.
 ghost use mathlib.Core.Path.{_≡_};
 ghost use Prim.Native.Nat.{_<_};
 ghost use Rattle.words.specs.Fields.{joined};

@@ -1,21 +1,20 @@
 -- What specs/Promises.antt says of a page's scrub holds: by the laws of the tally, which every code has. Assumes nothing.
-use mathlib.Core.Path.{_≡_, refl, sym, ap, ap₂, _∙_, subst}
+use mathlib.Core.Path.{_≡_, sym, ap, _∙_, subst}
 use mathlib.Core.Bool.{Bool, true, false}
-use mathlib.Core.List.{List, [], _∷_, map}
-use Prim.Native.Nat.{ℕ, zero, suc, _+_, _≤_, _<_}
-use native.Mathlib.Nat.{le-of-suc-le-suc}
+use mathlib.Core.List.{List, [], map}
+use Prim.Native.Nat.{ℕ, _+_, _≤_, _<_}
 use native.Mathlib.Decide.{decLe}
 use native.Mathlib.Omega.{arith}
 use lib.Dec.{leb, lit≤}
 use lib.ListN.{length, getD, length-map}
 use borrow.Author.Tests.{le-leb, lt-leb}
 use Rattle.words.specs.Word.{choose}
-use Rattle.words.proofs.Dist.{eq-of-dist}
-use Rattle.codes.specs.Promises.{Hands}
+use Rattle.words.proofs.Lists.{map-getD, map-twice}
 use Rattle.codes.specs.Verdict.{clean, mended, lost, verdict, repaired, scrubbed}
 use Rattle.codes.specs.Tally.{sumBy, TallyPromises}
+use Rattle.codes.proofs.Promises.{clean-word}
 use Rattle.codes.proofs.Tally.{tallies}
-use Rattle.grid.specs.Code.{codeword, gridCode}
+use Rattle.grid.specs.Code.{gridCode}
 use Rattle.grid.proofs.Promises as grid
 use Rattle.page.specs.declared.Tally.{Tally}
 use Rattle.page.specs.declared.Outcome.{Outcome}
@@ -56,39 +55,10 @@ counted page exit t s = go (decLe (length page) 512)
 laws : TallyPromises gridCode
 laws = tallies gridCode (grid.promised .verdicts)
 
--- ---- at each place
-
-at-map : (f : ℕ → ℕ) (xs : List ℕ) (i : ℕ) → i < length xs → getD (map f xs) i 0 ≡ f (getD xs i 0)
-at-map f [] i h = absurd (omega arith)
-at-map f (x ∷ xs) zero h = refl
-at-map f (x ∷ xs) (suc i) h = at-map f xs i (le-of-suc-le-suc h)
-
-map-same : (f : ℕ → ℕ) → ((w : ℕ) → f (f w) ≡ f w) → (xs : List ℕ) → map f (map f xs) ≡ map f xs
-map-same f h [] = refl
-map-same f h (x ∷ xs) = ap₂ {C = List ℕ} (λ (y : ℕ) (ys : List ℕ). y ∷ ys) (h x) (map-same f h xs)
-
 -- ---- a clean grid stays as it is
 
 clean-kept : (w d : ℕ) → verdict gridCode w ≡ clean d → scrubbed gridCode w ≡ w
-clean-kept w d e =
-    ap (repaired gridCode w) e
-    ∙ sym (eq-of-dist w (codeword d) (sym (grid.promised .verdicts .demand3 w .flips d 0 (subst (λ v. Hands v d 0) (sym e) (refl, refl)))))
-
--- ---- the second scrub
-
-again : (page once twice : List ℕ) (t u : Tally) → Scrubbed page (Done t) once → Scrubbed once (Done u) twice → Again t u once twice
-again page once twice t u p q =
-    let (few, s, a) = counted page once t p in
-    let (short, v, b) = counted once twice u q in
-    let w : u ≡ tallyOf (map (scrubbed gridCode) page) = v ∙ ap tallyOf a in
-    record {
-      grids = ap (λ x. x .grids) w ∙ length-map page (scrubbed gridCode) ∙ sym (ap (λ x. x .grids) s);
-      clean-now = ap (λ x. x .clean) w ∙ laws .again-clean page ∙ sym (ap (λ x. x .clean + x .mended) s);
-      none-mended = ap (λ x. x .mended) w ∙ laws .again-mended page;
-      same-lost = ap (λ x. x .lost) w ∙ laws .again-lost page ∙ sym (ap (λ x. x .lost) s);
-      no-flips = ap (λ x. x .flips) w ∙ laws .again-flips page;
-      unchanged = b ∙ ap (map (scrubbed gridCode)) a ∙ map-same (scrubbed gridCode) (laws .again) page ∙ sym a;
-    }
+clean-kept w d e = ap (repaired gridCode w) e ∙ sym (clean-word gridCode (grid.promised .verdicts) w d e .1)
 
 length-kept : (page exit : List ℕ) (r : Outcome) → Scrubbed page r exit → length exit ≡ length page
 length-kept page exit r s = go (decLe (length page) 512)
@@ -96,6 +66,23 @@ length-kept page exit r s = go (decLe (length page) 512)
     go : Dec (length page ≤ 512) → length exit ≡ length page
     go (yes few) = ap length (done few s .1) ∙ length-map page (scrubbed gridCode)
     go (no many) = ap length (refused (omega arith) s .1)
+
+-- ---- the second scrub
+
+again : (page once twice : List ℕ) (t : Tally) (r : Outcome) → Scrubbed page (Done t) once → Scrubbed once r twice
+    → (u : Tally) × (r ≡ Done u) × Again t u once twice
+again page once twice t r p q =
+    let (few, s, a) = counted page once t p in
+    let (v, b) = done (subst (λ (n : ℕ). n ≤ 512) (sym (length-kept page once (Done t) p)) few) q in
+    let w : tallyOf once ≡ tallyOf (map (scrubbed gridCode) page) = ap tallyOf a in
+    (tallyOf once, v, record {
+      grids = ap (λ x. x .grids) w ∙ length-map page (scrubbed gridCode) ∙ sym (ap (λ x. x .grids) s);
+      clean-now = ap (λ x. x .clean) w ∙ laws .again-clean page ∙ sym (ap (λ x. x .clean + x .mended) s);
+      none-mended = ap (λ x. x .mended) w ∙ laws .again-mended page;
+      same-lost = ap (λ x. x .lost) w ∙ laws .again-lost page ∙ sym (ap (λ x. x .lost) s);
+      no-flips = ap (λ x. x .flips) w ∙ laws .again-flips page;
+      unchanged = b ∙ ap (map (scrubbed gridCode)) a ∙ map-twice (scrubbed gridCode) (laws .again) page ∙ sym a;
+    })
 
 sum : (page exit : List ℕ) (t : Tally) → Scrubbed page (Done t) exit → t .grids ≡ t .clean + t .mended + t .lost
 sum page exit t s =
@@ -112,7 +99,7 @@ promised = record {
   accepted = λ page exit r few s. ap numberOf (done few s .0);
   refused = λ page exit r more s. (ap numberOf (refused more s .0), refused more s .1);
   length-kept = length-kept;
-  each = λ page exit r few s i h. ap (λ (l : List ℕ). getD l i 0) (done few s .1) ∙ at-map (scrubbed gridCode) page i h;
+  each = λ page exit r few s i h. ap (λ (l : List ℕ). getD l i 0) (done few s .1) ∙ map-getD (scrubbed gridCode) page i h;
   mended-replaced = λ w d n e. ap (repaired gridCode w) e;
   clean-kept = clean-kept;
   lost-kept = λ w e. ap (repaired gridCode w) e;

@@ -34,7 +34,8 @@ pub record PagePromises : Type 0 where
   -- Grids = clean + mended + lost.
   pub sum : (page exit : List ℕ) (t : Tally) → Scrubbed page (Done t) exit → t .grids ≡ t .clean + t .mended + t .lost
   -- A second scrub finds clean + mended clean, the same lost, 0 mended, 0 flips, and changes nothing.
-  pub again : (page once twice : List ℕ) (t u : Tally) → Scrubbed page (Done t) once → Scrubbed once (Done u) twice → Again t u once twice
+  pub again : (page once twice : List ℕ) (t : Tally) (r : Outcome) → Scrubbed page (Done t) once → Scrubbed once r twice
+      → (u : Tally) × (r ≡ Done u) × Again t u once twice
   -- An empty page gives five zeros.
   pub empty : (exit : List ℕ) (r : Outcome) → Scrubbed [] r exit
       → (r ≡ Done (record { grids = 0; clean = 0; mended = 0; lost = 0; flips = 0 })) × (exit ≡ [])

@@ -4,6 +4,7 @@ use Rattle.codes.specs.Verdict.{Verdict, flipsOf}
 use Rattle.codes.specs.Tally.{isClean, isMended, isLost}
 use Rattle.page.specs.declared.Tally.{Tally}
 
+-- of no grids
 abbrev pub none : Tally
 none = record { grids = 0; clean = 0; mended = 0; lost = 0; flips = 0 }
 

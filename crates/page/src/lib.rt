@@ -21,6 +21,9 @@ pub struct Tally {
     pub flips: u32,
 }
 
+// The most grids of a page.
+pub const MOST: usize = 512;
+
 // A scrub that was done, or refused for the page's length.
 pub enum Outcome {
     Done(Tally),
@@ -34,9 +37,6 @@ struct Step {
 }
 
 impl Tally {
-    // The most grids of a page.
-    pub const MOST: usize = 512;
-
     fn none() -> Tally
         ensures { λ r. ⌜ r ≡ none ⌝ }
     {
@@ -101,7 +101,7 @@ impl Tally {
 pub fn scrub(page: &mut [u64]) -> Outcome
     ensures { λ r. ⌜ Scrubbed (now (page .entry)) r (now (page .exit)) ⌝ }
 {
-    if page.len() > Tally::MOST {
+    if page.len() > MOST {
         return Outcome::Length;
     }
     let mut tally = Tally::none();

@@ -1,8 +1,9 @@
--- One place of a word: a bit is 0 or 1, the bit of an exclusive or is the parity of the two, and words with the same bits are the same.
+-- One place of a word: a bit is 0 or 1, the bit of an exclusive or is the parity of the two and that of an and is the lesser, and words
+-- with the same bits are the same. The lowest place that is set.
 -- Assumes nothing.
 use mathlib.Core.Path.{_≡_, refl, sym, ap, _∙_, subst}
 use mathlib.Core.Logic.{_⊎_, inl, inr}
-use Prim.Native.Nat.{ℕ, zero, suc, _+_, _-_, _*_, _/_, _%_, _^_, _<_, suc-le-suc, min}
+use Prim.Native.Nat.{ℕ, zero, suc, _+_, _-_, _*_, _/_, _%_, _^_, _≤_, _<_, suc-le-suc, min}
 use native.Mathlib.Nat.{le-of-suc-le-suc, not-suc-le-zero, mod-lt, zero-lt-suc, div-one, div-eq-of-lt, lt-of-le-of-lt, min-le-left}
 use native.Mathlib.Omega.{arith}
 use native.Mathlib.Numerals.{add-one, one-add}
@@ -71,6 +72,27 @@ pub eq-of-differ : (x y : ℕ) → differ x y ≡ 0 → x ≡ y
 eq-of-differ zero y e = sym e
 eq-of-differ (suc x) zero e = e
 eq-of-differ (suc x) (suc y) e = ap suc (eq-of-differ x y e)
+
+pub min-one : (x : ℕ) → x < 2 → min x 1 ≡ x
+min-one x h = by-bit (λ (x : ℕ). min x 1 ≡ x) refl refl x h
+
+pub min-bit : (x y : ℕ) → x < 2 → min x y < 2
+min-bit x y h = omega arith
+
+pub differ-one : (x y : ℕ) → x < 2 → y < 2 → differ x y ≡ 1 → differ x 1 ≡ y
+differ-one x y hx hy e =
+    by-bit (λ (x : ℕ). differ x y ≡ 1 → differ x 1 ≡ y) (λ e. sym e)
+    (by-bit (λ (y : ℕ). differ 1 y ≡ 1 → differ 1 1 ≡ y) (λ e. refl) (λ e. absurd (omega arith)) y hy) x hx e
+
+pub differ-back : (x p : ℕ) → x < 2 → p < 2 → differ (differ x p) x ≡ p
+differ-back x p hx hp =
+    by-bit (λ (x : ℕ). differ (differ x p) x ≡ p) (differ-zero p) (by-bit (λ (p : ℕ). differ (differ 1 p) 1 ≡ p) refl refl p hp) x hx
+
+-- one more flip is one place more, at most
+pub differ-more : (x p y : ℕ) → x < 2 → p < 2 → y < 2 → differ (differ x p) y ≤ differ x y + p
+differ-more x p y hx hp hy =
+    by-bit (λ (p : ℕ). differ (differ x p) y ≤ differ x y + p) (rw differ-zero (omega arith))
+    (omega (arith, differ-lt (differ x 1) y (differ-lt x 1 hx (omega arith)) hy)) p hp
 
 -- ---- the lowest bit and the rest of an exclusive or
 

@@ -1,5 +1,5 @@
 -- A word as fields of k bits and back: each undoes the other, a place of the word is a place of a field, and the distance of two words is
--- the sum over their fields. Assumes nothing.
+-- the sum over their fields. Words put together from parts, and fields that are filled. Assumes nothing.
 use mathlib.Core.Path.{_≡_, refl, sym, ap, ap₂, _∙_, subst}
 use mathlib.Core.List.{List, [], _∷_}
 use Prim.Native.Nat.{ℕ, zero, suc, _+_, _*_, _/_, _%_, _^_, _<_, suc-le-suc}

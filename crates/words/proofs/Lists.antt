@@ -1,10 +1,11 @@
--- A list of which the first i elements are mapped: what a loop that goes through it leaves on the way. Assumes nothing.
-use mathlib.Core.Path.{_≡_, refl, _∙_}
-use mathlib.Core.List.{List, _++_, map, map-append, append-nil}
-use Prim.Native.Nat.{ℕ, suc, _+_, _≤_, _<_}
+-- Lists that are mapped, wholly or in their first i elements, as a loop that goes through them leaves them on the way. Assumes nothing.
+use mathlib.Core.Path.{_≡_, refl, ap₂, _∙_}
+use mathlib.Core.List.{List, [], _∷_, _++_, map, map-append, append-nil}
+use Prim.Native.Nat.{ℕ, zero, suc, _+_, _≤_, _<_}
+use native.Mathlib.Nat.{not-suc-le-zero, le-of-suc-le-suc}
 use native.Mathlib.Numerals.{add-one}
 use native.Mathlib.Omega.{arith}
-use lib.ListN.{length, getD, set, take, drop, length-append, length-map, length-drop, drop-of-length-le}
+use lib.ListN.{length, getD, set, take, drop, length-map, drop-of-length-le}
 use lib.Seq.{take-suc, take-all, drop-cons, set-at, getD-at, append-snoc, length-take-le}
 
 unfoldable pub partly : (ℕ → ℕ) → ℕ → List ℕ → List ℕ
@@ -35,6 +36,14 @@ module _ (f : ℕ → ℕ) (xs : List ℕ) where
   unfolding partly
   partly-all i h = simp (take-all i xs h, drop-of-length-le xs h, append-nil)
 
-  pub partly-length : (i : ℕ) → i ≤ length xs → length (partly f i xs) ≡ length xs
-  unfolding partly
-  partly-length i h = simp (length-append, length-front i h, length-drop) (omega arith)
+-- ---- each element
+
+pub map-getD : (f : ℕ → ℕ) (xs : List ℕ) (i : ℕ) → i < length xs → getD (map f xs) i 0 ≡ f (getD xs i 0)
+map-getD f [] i h = absurd (not-suc-le-zero h)
+map-getD f (x ∷ xs) zero h = refl
+map-getD f (x ∷ xs) (suc i) h = map-getD f xs i (le-of-suc-le-suc h)
+
+-- mapped twice, where a second time changes nothing
+pub map-twice : (f : ℕ → ℕ) → ((x : ℕ) → f (f x) ≡ f x) → (xs : List ℕ) → map f (map f xs) ≡ map f xs
+map-twice f h [] = refl
+map-twice f h (x ∷ xs) = ap₂ {C = List ℕ} (λ (y : ℕ) (ys : List ℕ). y ∷ ys) (h x) (map-twice f h xs)
