@@ -2,7 +2,6 @@
 // known that there are two.
 ghost use mathlib.Core.Path.{_≡_};
 ghost use mathlib.Core.List.{map};
-ghost use Rattle.words.specs.Fields.{joined};
 ghost use Rattle.grid.specs.Steps.{mendedRow};
 
 // Places 4 to 7 of the row whose places 0 to 3 hold 0, 1, .. 15.
@@ -29,21 +28,21 @@ const FLIPS: [u8; 16] = [
     52,
 ];
 
-// What a trial needs of each row, in its byte: the data places put right; in place 4, whether the row
-// needed one flip or two; in place 5, whether it needed two.
-pub fn mended(rows: [u8; 8]) -> u64
-    ensures { λ r. ⌜ r ≡ joined 8 (map mendedRow rows) ⌝ }
+// The rows copied, and each put right: in places 0 to 3 its data places; place 4 is set where the row
+// needed one flip or two, place 5 where it needed two. A trial asks for no more.
+pub fn mended(rows: [u8; 8]) -> [u8; 8]
+    ensures { λ r. ⌜ r ≡ map mendedRow rows ⌝ }
 {
     let checks = CHECKS;
     let flips = FLIPS;
-    let mut all: u64 = 0;
-    let mut r: usize = 8;
-    while 0 < r {
-        r -= 1;
-        let row = rows[r] as u64;
-        let places = row % 16;
-        let check = (checks[places as usize] as u64) ^ (row / 16);
-        all = (all << 8) | (places ^ (flips[check as usize] as u64));
+    let mut copy = rows;
+    let mut r: usize = 0;
+    while r < 8 {
+        let row = rows[r];
+        let places = row & 15;
+        let check = checks[places as usize] ^ (row >> 4);
+        copy[r] = places ^ flips[check as usize];
+        r += 1;
     }
-    all
+    copy
 }

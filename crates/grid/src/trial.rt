@@ -36,7 +36,8 @@ pub fn nearest(read: [u8; 8], word: u64) -> Near
     requires { ⌜ word ≡ joined 8 read ⌝ }
     ensures { λ r. ⌜ Nearby word (r .number) (r .flips) ⌝ }
 {
-    let rows = rows::mended(read);
+    let mended = rows::mended(read);
+    let rows = Grid { rows: mended }.number();
     let first = trial(word, rows, 2);
     if first.flips <= Grid::RADIUS {
         return first;

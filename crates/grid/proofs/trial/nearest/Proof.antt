@@ -1,5 +1,5 @@
 -- `grid::trial::nearest` meets its contract: two trials are enough. Assumes nothing.
-use mathlib.Core.Path.{_≡_, sym, subst}
+use mathlib.Core.Path.{_≡_, sym, ap, _∙_, subst}
 use mathlib.Core.List.{List, map}
 use Prim.Native.Nat.{ℕ}
 use lib.Dec.{lit<}
@@ -20,23 +20,31 @@ is-mended rows word x n small e s =
 
 trial-requires : tie.Need-trial-requires
 trial-requires c κs =
-    let rows : List ℕ = c .before .args .read in
-    let small : (i : ℕ) → Fits w8 (getD rows i 0) = λ i. search needs in
-    (is-mended rows (c .before .args .word) (c .mended .result) (search needs) (λ i. small i .fits) (c .before .pre) (c .mended .ensures), lit< tt, lit< tt)
+    let s = c .before .before in
+    let small : (i : ℕ) → Fits w8 (getD (s .args .read) i 0) = λ i. search needs in (
+      is-mended (s .args .read) (s .args .word) (c .number .result) (search needs) (λ i. small i .fits) (s .pre)
+          (c .number .ensures .answer ∙ ap (joined 8) (c .before .mended .ensures)),
+      lit< tt,
+      lit< tt,
+    )
 
 trial-requires-2 : tie.Need-trial-requires-2
 trial-requires-2 c κs =
     let m = c .before .before .before in
-    let rows : List ℕ = m .before .args .read in
-    let small : (i : ℕ) → Fits w8 (getD rows i 0) = λ i. search needs in
-    (is-mended rows (m .before .args .word) (m .mended .result) (search needs) (λ i. small i .fits) (m .before .pre) (m .mended .ensures), lit< tt, lit< tt)
+    let s = m .before .before in
+    let small : (i : ℕ) → Fits w8 (getD (s .args .read) i 0) = λ i. search needs in (
+      is-mended (s .args .read) (s .args .word) (m .number .result) (search needs) (λ i. small i .fits) (s .pre)
+          (m .number .ensures .answer ∙ ap (joined 8) (m .before .mended .ensures)),
+      lit< tt,
+      lit< tt,
+    )
 
 returns-2 : tie.Need-returns-2
 returns-2 c =
-    let s = c .before .before .before .before .before in
+    let s = c .before .before .before .before .before .before in
     let first = c .before .before .before .trial in
     both-trials (s .args .word) (first .result .number) (first .result .flips) (c .trial2 .result .number) (c .trial2 .result .flips)
     (s .fits .word .fits) (first .ensures) (c .before .if1 .left) (c .trial2 .ensures)
 
 pub nearest-spec : {M : Type 1} → statement M
-nearest-spec = tie.close (tie.spec (λ c κs. search needs) trial-requires (λ c. search needs) trial-requires-2 returns-2)
+nearest-spec = tie.close (tie.spec (λ c κs. search needs) (λ c κs. search needs) trial-requires (λ c. search needs) trial-requires-2 returns-2)
