@@ -1,10 +1,12 @@
-/* The library's page scrub beside the second program's. `page` runs all tests, `page SEED` runs them on other pages. A difference is
-   reported at the number of the page. */
+/* The library's page scrub beside the second program's. `page` runs all tests, `page SEED` runs them on other pages. `page SIDE BIT`, where
+   SIDE is `library` or `second program`, runs them with that bit of one place of that side flipped (0 to 63 in a grid of the page, 64 to 95
+   in a number of the tally): it has to fail. A difference is reported at the number of the page. */
 #include "draw.h"
 #include "library.h"
 #include "plain.h"
 #include "second.h"
 
+int strcmp(const char *, const char *);
 unsigned long long strtoull(const char *, char **, int);
 
 /* A page and a tally stand in the middle of a room, the rest of which nothing may touch. */
@@ -50,6 +52,16 @@ static void compare_states(struct test *t, const struct state *a, const struct s
         compare(t, a->grids[k], b->grids[k], at);
 }
 
+/* what is flipped in the first page of one grid, on either side: in the grid and in the flips of the tally */
+static uint64_t flip_library[2], flip_second[2];
+
+static void flip(struct state *s, uint64_t flips[2])
+{
+    s->grids[BEFORE] ^= flips[0];
+    s->tally[FLIPS] ^= (uint32_t)flips[1];
+    flips[0] = flips[1] = 0;
+}
+
 static struct test scrubbed = {.name = "page scrub, 0 to 512 grids"}, again = {.name = "page scrub, a second time"},
                    refused = {.name = "page scrub, 513 and 600 grids"}, plain = {.name = "the plain version's page scrub, the same pages"};
 
@@ -60,8 +72,13 @@ static void scrub(struct test *t, struct state *library, uint64_t n, uint64_t at
     library->returned = page_scrub(library->grids + BEFORE, n, library->tally + BEFORE, NUMBERS);
     second.returned = second_scrub(second.grids + BEFORE, n, second.tally + BEFORE);
     plainly.returned = plain_scrub(plainly.grids + BEFORE, n, plainly.tally + BEFORE);
-    compare_states(t, library, &second, at);
     compare_states(&plain, &plainly, &second, at);
+    struct state shown = *library;
+    if (n == 1) {
+        flip(&shown, flip_library);
+        flip(&second, flip_second);
+    }
+    compare_states(t, &shown, &second, at);
 }
 
 static void pages(void)
@@ -115,6 +132,15 @@ static void tallies(void)
 
 int main(int n, char **words)
 {
+    if (n == 3) {
+        unsigned long long bit = strtoull(words[2], 0, 10);
+        uint64_t *flips = strcmp(words[1], "library") == 0 ? flip_library : strcmp(words[1], "second program") == 0 ? flip_second : 0;
+        if (flips == 0)
+            return 1;
+        flips[bit / 64 % 2] = (uint64_t)1 << bit % 64;
+        pages();
+        return 0;
+    }
     if (n == 2)
         seed = strtoull(words[1], 0, 10);
     pages();

@@ -3,7 +3,7 @@
 enum { RADIUS = 7, LONGEST_PAGE = 512, LENGTH_NOT_ALLOWED = 3, LOST = 1 << 24 };
 
 /* The row with given data places. A row's check is what its check places have beyond that row's; the flips that leave a check are one if
-   the check has an odd number of ones, two if it has an even number. */
+   the check has an odd number of ones, two if it has an even number other than 0. */
 static const uint8_t row_of[16] = {0x00, 0xB1, 0xD2, 0x63, 0x74, 0xC5, 0xA6, 0x17, 0xE8, 0x59, 0x3A, 0x8B, 0x9C, 0x2D, 0x4E, 0xFF};
 static const uint8_t flips_of[16] = {0x00, 0x10, 0x20, 0x30, 0x40, 0x50, 0x60, 0x04, 0x80, 0x90, 0xA0, 0x01, 0xC0, 0x02, 0x08, 0x41};
 
