@@ -97,7 +97,8 @@ impl Tally {
     }
 }
 
-// Scrubs a page of 0 to 512 grids. A longer one is refused, and nothing is written.
+// Scrubs a page of 0 to 512 grids. A longer one is refused, and nothing is written. Nor is a grid that
+// stays as it is.
 pub fn scrub(page: &mut [u64]) -> Outcome
     ensures { λ r. ⌜ Scrubbed (now (page .entry)) r (now (page .exit)) ⌝ }
 {
@@ -107,9 +108,12 @@ pub fn scrub(page: &mut [u64]) -> Outcome
     let mut tally = Tally::none();
     let mut i: usize = 0;
     while i < page.len() {
-        let step = tally.with_grid(page[i]);
-        page[i] = step.word;
+        let word = page[i];
+        let step = tally.with_grid(word);
         tally = step.tally;
+        if step.word != word {
+            page[i] = step.word;
+        }
         i += 1;
     }
     Outcome::Done(tally)

@@ -1,5 +1,5 @@
 -- Lists that are mapped, wholly or in their first i elements, as a loop that goes through them leaves them on the way. Assumes nothing.
-use mathlib.Core.Path.{_≡_, refl, ap₂, _∙_}
+use mathlib.Core.Path.{_≡_, refl, ap, ap₂, _∙_}
 use mathlib.Core.List.{List, [], _∷_, _++_, map, map-append, append-nil}
 use Prim.Native.Nat.{ℕ, zero, suc, _+_, _≤_, _<_}
 use native.Mathlib.Nat.{not-suc-le-zero, le-of-suc-le-suc}
@@ -42,6 +42,12 @@ pub map-getD : (f : ℕ → ℕ) (xs : List ℕ) (i : ℕ) → i < length xs →
 map-getD f [] i h = absurd (not-suc-le-zero h)
 map-getD f (x ∷ xs) zero h = refl
 map-getD f (x ∷ xs) (suc i) h = map-getD f xs i (le-of-suc-le-suc h)
+
+-- an element stored where it stands
+pub set-same : (xs : List ℕ) (i : ℕ) → set xs i (getD xs i 0) ≡ xs
+set-same [] i = refl
+set-same (x ∷ xs) zero = refl
+set-same (x ∷ xs) (suc i) = ap {B = List ℕ} (λ l. x ∷ l) (set-same xs i)
 
 -- mapped twice, where a second time changes nothing
 pub map-twice : (f : ℕ → ℕ) → ((x : ℕ) → f (f x) ≡ f x) → (xs : List ℕ) → map f (map f xs) ≡ map f xs

@@ -1,16 +1,17 @@
 -- `page::scrub` meets its contract: grid after grid, by the laws of a turn. Assumes nothing.
 use mathlib.Core.Path.{_≡_, refl, sym, ap, _∙_}
+use mathlib.Core.Logic.{⊎-elim}
 use mathlib.Core.Bool.{Bool, true, false}
 use mathlib.Core.List.{List, map}
-use Prim.Native.Nat.{ℕ, _-_, _≤_, _<_}
+use Prim.Native.Nat.{ℕ, _+_, _-_, _≤_, _<_}
 use native.Mathlib.Omega.{arith}
 use lib.Dec.{leb}
-use lib.ListN.{length, take, length-set}
+use lib.ListN.{length, set, take, length-set}
 use lib.Seq.{take-all}
 use borrow.Author.Tests.{le-leb, lt-leb}
 use denote.Ref.{now}
 use Rattle.words.specs.Word.{choose}
-use Rattle.words.proofs.Lists.{partly, partly-none, partly-all}
+use Rattle.words.proofs.Lists.{partly, partly-none, partly-all, set-same}
 use Rattle.codes.specs.Verdict.{scrubbed}
 use Rattle.codes.specs.Tally.{sumBy}
 use Rattle.grid.specs.Code.{gridCode}
@@ -49,14 +50,20 @@ with-grid-requires c κs =
 
 loop-again : tie.Need-loop-again Inv-loop μ-loop
 loop-again c =
-    let l = c .before .before .before .before .loop in
-    let p : List ℕ = now (c .before .before .before .before .before .before .before .before .args .page) in
+    let l = c .before .before .before .before .before .before .loop in
+    let p : List ℕ = now (c .before .before .before .before .before .before .before .before .before .before .args .page) in
+    let step = c .before .before .before .with-grid in
     let few : length p ≤ 512 = omega arith in
-    let more : l .i < length p = omega arith in (
+    let more : l .i < length p = omega arith in
+    let written : set (l .page) (l .i) (step .result .word) ≡ partly (scrubbed gridCode) (l .i + 1) p =
+    turn-page p (l .page) (l .i) (l .tally) more few (l .inv .1) (l .inv .2) (step .result .word) (step .ensures .0) in
+    let page-is : c .if2 .page ≡ set (l .page) (l .i) (step .result .word) =
+    ⊎-elim (λ w. w .1)
+    (λ w. w .1 ∙ sym (ap (set (l .page) (l .i)) (w .0 .left) ∙ set-same (l .page) (l .i))) (c .if2 .came) in (
       search needs,
-      turn-page p (l .page) (l .i) (l .tally) more few (l .inv .1) (l .inv .2) (c .before .with-grid .result .word) (c .before .with-grid .ensures .0),
-      c .before .with-grid .ensures .1 ∙ turn-tally p (l .page) (l .i) (l .tally) more few (l .inv .1) (l .inv .2),
-      simp length-set (l .inv .3),
+      page-is ∙ written,
+      step .ensures .1 ∙ turn-tally p (l .page) (l .i) (l .tally) more few (l .inv .1) (l .inv .2),
+      ap length page-is ∙ simp length-set (l .inv .3),
     )
 
 same-length : tie.Need-same-length Inv-loop μ-loop
