@@ -110,9 +110,10 @@ pub fn scrub(page: &mut [u64]) -> Outcome
     while i < page.len() {
         let word = page[i];
         let step = tally.with_grid(word);
+        let number = step.word;
         tally = step.tally;
-        if step.word != word {
-            page[i] = step.word;
+        if number != word {
+            page[i] = number;
         }
         i += 1;
     }

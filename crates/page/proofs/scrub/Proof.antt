@@ -50,9 +50,9 @@ with-grid-requires c κs =
 
 loop-again : tie.Need-loop-again Inv-loop μ-loop
 loop-again c =
-    let l = c .before .before .before .before .before .before .loop in
-    let p : List ℕ = now (c .before .before .before .before .before .before .before .before .before .before .args .page) in
-    let step = c .before .before .before .with-grid in
+    let l = c .before .before .before .before .before .loop in
+    let p : List ℕ = now (c .before .before .before .before .before .before .before .before .before .args .page) in
+    let step = c .before .before .with-grid in
     let few : length p ≤ 512 = omega arith in
     let more : l .i < length p = omega arith in
     let written : set (l .page) (l .i) (step .result .word) ≡ partly (scrubbed gridCode) (l .i + 1) p =
