@@ -2,6 +2,7 @@
 // bytes is done to every column alike.
 ghost use mathlib.Core.Path.{_≡_};
 ghost use Prim.Native.Nat.{ℕ, _%_, _<_};
+ghost use lib.Bits.{bitAnd};
 ghost use lib.Dec.{eqb};
 ghost use lib.ListN.{getD};
 ghost use Rattle.words.specs.Word.{choose, combined, sumTo};
@@ -9,7 +10,7 @@ ghost use Rattle.grid.specs.Equations.{inColumn};
 ghost use Rattle.grid.specs.Steps.{colEntries, Asides, OneRow, Solved};
 
 // The parity of each column, in all of its places.
-pub fn spread(w: u64) -> u64
+fn spread(w: u64) -> u64
     ensures { λ p. ⌜ ((c r : ℕ) → c < 8 → r < 8 → inColumn p c r ≡ sumTo 8 (inColumn w c) % 2) ⌝ }
 {
     let halves = w ^ (w << 32) ^ (w >> 32);
@@ -19,7 +20,7 @@ pub fn spread(w: u64) -> u64
 
 // In each column of odd parity, the one place whose switching leaves a word of the column code: the row
 // whose address the parities of rows 0 1 3 4, of rows 0 2 3 5 and of rows 1 2 3 6 make.
-pub fn named(odd: u64) -> u64
+fn named(odd: u64) -> u64
     ensures { λ p. ⌜ ((c r : ℕ) → c < 8 → r < 8 → combined colEntries (inColumn odd c) % 2 ≡ 1 → inColumn p c r ≡ choose (eqb (combined colEntries (inColumn odd c)) (getD colEntries r 0)) 1 0) ⌝ }
 {
     let first = spread(odd & 0x0000_00FF_FF00_FFFF) ^ 0xFFFF_FF00_00FF_0000;
@@ -29,7 +30,7 @@ pub fn named(odd: u64) -> u64
 }
 
 // All places of one row: of the first row set aside, or of row 7 where none is.
-pub fn first_row(aside: u64) -> u64
+fn first_row(aside: u64) -> u64
     requires { ⌜ Asides aside ⌝ }
     ensures { λ p. ⌜ OneRow aside p ⌝ }
 {
@@ -39,14 +40,14 @@ pub fn first_row(aside: u64) -> u64
     255 << u64::trailing_zeros(aside)
 }
 
-// The rows put right, in each column in which a codeword agrees with them. In a column of even parity
-// the first row set aside is switched, so that all columns are odd, and one place of each is named. With
-// one row set aside or none, that place is the last one wrong. With more, no other row is wrong: where
-// the place named is in another row, all those set aside were.
-pub fn solved(rows: u64, aside: u64) -> u64
-    requires { ⌜ Asides aside ⌝ }
-    ensures { λ s. ⌜ Solved rows aside s ⌝ }
+// The rows put right, in each column in which a codeword agrees with them. The rows that have place 0
+// marked are set aside. In a column of even parity the first of them is switched, so that all columns are
+// odd, and one place of each is named. With one row set aside or none, that place is the last one wrong.
+// With more, no other row is wrong: where the place named is in another row, all those set aside were.
+pub fn solved(rows: u64, marks: u64) -> u64
+    ensures { λ s. ⌜ Solved rows (bitAnd marks 0x0101_0101_0101_0101) s ⌝ }
 {
+    let aside = marks & 0x0101_0101_0101_0101;
     let first = first_row(aside);
     let even = spread(rows) ^ 0xFFFF_FFFF_FFFF_FFFF;
     let odd = rows ^ (first & even);

@@ -130,7 +130,7 @@ impl Grid {
         ensures { λ r. ⌜ Decoded (self .rows) r ⌝ }
     {
         let rows = self.rows;
-        let near = trial::nearest(rows, self.number());
+        let near = trial::nearest(rows);
         let flips = near.flips;
         if Grid::RADIUS < flips {
             return Answer {

@@ -1,15 +1,10 @@
 -- `grid::trial::trial` meets its contract: the codeword with the data places that came out, and its places counted. Assumes nothing.
-use Prim.Native.Nat.{_+_, _/_, _^_, _<_}
-use lib.Dec.{lit<}
+use Prim.Native.Nat.{_^_, _<_}
 use Rattle.words.specs.Word.{dist}
-use Rattle.words.proofs.Bit.{and-twice}
 use Rattle.grid.proofs.Decoder.{tried}
 use borrow.Author.Needs.{needs}
 use Rattle.grid.proofs.trial.trial.Statement.{statement}
 use Rattle.grid.proofs.trial.trial.Tie as tie
-
-solved-requires : tie.Need-solved-requires
-solved-requires c κs = and-twice 64 (c .args .rows / 2 ^ (3 + c .args .least)) 0x0101_0101_0101_0101 (lit< tt)
 
 returns : tie.Need-returns
 unfolding dist
@@ -23,4 +18,4 @@ returns c =
 pub trial-spec : {M : Type 1} → statement M
 trial-spec =
     tie.close
-    (tie.spec (λ c. search needs) (λ c. search needs) (λ c. search needs) solved-requires (λ c κs. search needs) (λ c κs. search needs) returns)
+    (tie.spec (λ c. search needs) (λ c. search needs) (λ c. search needs) (λ c κs. search needs) (λ c κs. search needs) (λ c κs. search needs) returns)
