@@ -3,17 +3,12 @@
    one with that bit of one answer of that side flipped (0 to 63 in the verdict, 64 to 127 in the repaired grid): it has to fail.
    Answers that differ are reported at the word that was read. */
 #include "draw.h"
+#include "flip.h"
 #include "library.h"
 #include "plain.h"
 #include "second.h"
 
-int strcmp(const char *, const char *);
-unsigned long long strtoull(const char *, char **, int);
-
 enum { VALUES = 65536, SLICE = 1000, MANY = 20000, PAIRS = 2000 };
-
-/* what is flipped in the first answer of either side: in the verdict and in the repaired grid */
-static uint64_t flip_library[2], flip_second[2];
 
 static struct test plain = {.name = "the plain version's decode, the same words"};
 
@@ -209,19 +204,12 @@ static void lengths(void)
 int main(int n, char **words)
 {
     if (n == 3) {
-        unsigned long long bit = strtoull(words[2], 0, 10);
-        uint64_t flip = (uint64_t)1 << bit % 64;
-        if (strcmp(words[1], "library") == 0)
-            flip_library[bit / 64 % 2] = flip;
-        else if (strcmp(words[1], "second program") == 0)
-            flip_second[bit / 64 % 2] = flip;
-        else
+        if (!read_flip(words))
             return 1;
         half_way();
         return 0;
     }
-    if (n == 2)
-        seed = strtoull(words[1], 0, 10);
+    read_seed(n, words);
     counts();
     worked_words();
     every_codeword();

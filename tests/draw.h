@@ -2,8 +2,16 @@
 #include "report.h"
 
 int snprintf(char *, unsigned long, const char *, ...);
+unsigned long long strtoull(const char *, char **, int);
 
 static uint64_t seed = 1, drawn;
+
+/* Reads `SEED` behind a program's name, if it is there. */
+static inline void read_seed(int n, char **words)
+{
+    if (n == 2)
+        seed = strtoull(words[1], 0, 10);
+}
 
 /* a word that looks random, from a counter */
 static inline uint64_t word(uint64_t k)

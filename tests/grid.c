@@ -1,17 +1,13 @@
 /* The library's grid beside the second program's.
-   `grid` runs all tests. `grid SIDE BIT`, where SIDE is `library` or `second program`, runs the first one with that bit
+   `grid` runs all tests. `grid SIDE BIT`, where SIDE is `library` or `second program`, runs the first one with that bit (0 to 63)
    of one answer of that side flipped: it has to fail. */
 #include "draw.h"
+#include "flip.h"
 #include "library.h"
 #include "plain.h"
 #include "second.h"
 
-int atoi(const char *);
-int strcmp(const char *, const char *);
-
 enum { VALUES = 65536, FLIPPED = 40961 };
-
-static uint64_t flip_library, flip_second;
 
 static void every_grid(void)
 {
@@ -19,8 +15,8 @@ static void every_grid(void)
     for (uint32_t d = 0; d < VALUES; d++) {
         uint64_t library = grid_encode((uint16_t)d), second = second_grid((uint16_t)d);
         if (d == FLIPPED) {
-            library ^= flip_library;
-            second ^= flip_second;
+            library ^= flip_library[0];
+            second ^= flip_second[0];
         }
         compare(&t, library, second, d);
     }
@@ -91,12 +87,7 @@ static void constants(void)
 int main(int n, char **words)
 {
     if (n == 3) {
-        uint64_t flip = (uint64_t)1 << (atoi(words[2]) & 63);
-        if (strcmp(words[1], "library") == 0)
-            flip_library = flip;
-        else if (strcmp(words[1], "second program") == 0)
-            flip_second = flip;
-        else
+        if (!read_flip(words))
             return 1;
         every_grid();
         return 0;

@@ -15,3 +15,14 @@ void grid_decode(const uint64_t *words, uint64_t n, uint64_t *verdicts, uint64_t
 /* It returns document 01's number, 0 or 3. The tally has five places: grids, clean, mended, lost, flips; with any other length 255 is
    returned and nothing is done. */
 uint32_t page_scrub(uint64_t *page, uint64_t n, uint32_t *tally, uint64_t m);
+
+uint32_t block_radius(void);
+uint32_t block_length(void);
+uint32_t block_distance(void);
+
+/* The words of the block of 32 data words, into 38 words. It returns document 01's number, 0 or 3. */
+uint32_t block_encode(const uint16_t *values, uint64_t n, uint16_t *words, uint64_t m);
+
+/* A block scrubbed in place. It returns the flips, and from bit 8 on document 01's number (0 none, 2 lost, 3 another length than 38,
+   5 tie). */
+uint32_t block_scrub(uint16_t *words, uint64_t n);

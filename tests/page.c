@@ -2,12 +2,10 @@
    SIDE is `library` or `second program`, runs them with that bit of one place of that side flipped (0 to 63 in a grid of the page, 64 to 95
    in a number of the tally): it has to fail. A difference is reported at the number of the page. */
 #include "draw.h"
+#include "flip.h"
 #include "library.h"
 #include "plain.h"
 #include "second.h"
-
-int strcmp(const char *, const char *);
-unsigned long long strtoull(const char *, char **, int);
 
 /* A page and a tally stand in the middle of a room, the rest of which nothing may touch. */
 enum { BEFORE = 3, LONGEST = 600, ROOM = BEFORE + LONGEST + BEFORE, NUMBERS = 5, TALLY_ROOM = BEFORE + NUMBERS + BEFORE };
@@ -52,9 +50,7 @@ static void compare_states(struct test *t, const struct state *a, const struct s
         compare(t, a->grids[k], b->grids[k], at);
 }
 
-/* what is flipped in the first page of one grid, on either side: in the grid and in the flips of the tally */
-static uint64_t flip_library[2], flip_second[2];
-
+/* what is flipped: in the grid of the first page of one, and in the flips of its tally */
 static void flip(struct state *s, uint64_t flips[2])
 {
     s->grids[BEFORE] ^= flips[0];
@@ -133,16 +129,12 @@ static void tallies(void)
 int main(int n, char **words)
 {
     if (n == 3) {
-        unsigned long long bit = strtoull(words[2], 0, 10);
-        uint64_t *flips = strcmp(words[1], "library") == 0 ? flip_library : strcmp(words[1], "second program") == 0 ? flip_second : 0;
-        if (flips == 0)
+        if (!read_flip(words))
             return 1;
-        flips[bit / 64 % 2] = (uint64_t)1 << bit % 64;
         pages();
         return 0;
     }
-    if (n == 2)
-        seed = strtoull(words[1], 0, 10);
+    read_seed(n, words);
     pages();
     tallies();
     return 0;

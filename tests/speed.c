@@ -1,17 +1,21 @@
 /* One operation many times, for counting its instructions: `speed SIDE OPERATION COUNT`, where SIDE is `library` or `plain`. COUNT is a
    multiple of 1000. */
+#include "draw.h"
 #include "library.h"
 #include "plain.h"
 
-int printf(const char *, ...);
 int atoi(const char *);
 int strcmp(const char *, const char *);
 
-enum { WORDS = 1000, PAGE = 500, NUMBERS = 5 };
+enum { WORDS = 1000, PAGE = 500, NUMBERS = 5, BLOCKS = 200, BLOCK_DATA = 32, BLOCK_WORDS = 38 };
 
 /* what is decoded and scrubbed, and the answers */
 static uint64_t words[WORDS], verdicts[WORDS], repaired[WORDS];
 static uint32_t tally[NUMBERS];
+static struct block {
+    uint16_t words[BLOCK_WORDS];
+} blocks[BLOCKS], block;
+static uint32_t returned;
 
 static uint16_t value(uint32_t k)
 {
@@ -54,12 +58,47 @@ static void plain_scrubbing(uint32_t n)
         plain_scrub(words, PAGE, tally);
 }
 
-/* Each with the places that are flipped in every codeword. From `clean` to `lost` a word is decoded; `page-clean` is for one grid of a
-   page. */
+static void library_block_encoding(uint32_t n)
+{
+    for (; n >= BLOCKS; n -= BLOCKS)
+        for (uint32_t k = 0; k < BLOCKS; k++)
+            returned += block_encode(blocks[k].words, BLOCK_DATA, block.words, BLOCK_WORDS);
+}
+
+static void plain_block_encoding(uint32_t n)
+{
+    for (; n >= BLOCKS; n -= BLOCKS)
+        for (uint32_t k = 0; k < BLOCKS; k++)
+            returned += plain_block_encode(blocks[k].words, BLOCK_DATA, block.words, BLOCK_WORDS);
+}
+
+/* a copy of a block is scrubbed, so that the flips are there the next time; the copy, some ten instructions, is counted on both sides */
+static void library_block_scrubbing(uint32_t n)
+{
+    for (; n >= BLOCKS; n -= BLOCKS)
+        for (uint32_t k = 0; k < BLOCKS; k++) {
+            block = blocks[k];
+            returned += block_scrub(block.words, BLOCK_WORDS);
+        }
+}
+
+static void plain_block_scrubbing(uint32_t n)
+{
+    for (; n >= BLOCKS; n -= BLOCKS)
+        for (uint32_t k = 0; k < BLOCKS; k++) {
+            block = blocks[k];
+            returned += plain_block_scrub(block.words, BLOCK_WORDS);
+        }
+}
+
+typedef void operation(uint32_t);
+
+/* Each with the places that are flipped in every grid. From `clean` to `lost` a word is decoded; `page-clean` is for one grid of a page.
+   The blocks are any words. */
 static const struct {
     const char *name;
     uint64_t flips;
-    void (*library)(uint32_t), (*plain)(uint32_t);
+    operation *library, *plain;
 } operations[] = {
     {"encode", 0, library_encoding, plain_encoding},
     {"clean", 0, library_decoding, plain_decoding},
@@ -69,19 +108,67 @@ static const struct {
     {"both-trials", 0x0000000000070007, library_decoding, plain_decoding},
     {"lost", 0x000000B1000000B1, library_decoding, plain_decoding},
     {"page-clean", 0, library_scrubbing, plain_scrubbing},
+    {"block-encode", 0, library_block_encoding, plain_block_encoding},
+    {"block-random", 0, library_block_scrubbing, plain_block_scrubbing},
 };
+
+/* The other block scrubs, each with what is flipped in every block, in up to three words. Where the name does not say it, data places are
+   in different rows and columns and on different diagonals. In `block-flips-crossed` the one in the upper row is right of the other; a name
+   that ends in `-check` after `flips` is for a data place and such a check. */
+static const struct {
+    const char *name;
+    struct {
+        uint16_t word, bits;
+    } flips[3];
+} block_scrubs[] = {
+    {"block-clean", {{0}}},
+    {"block-flip-1", {{9, 1 << 6}}},
+    {"block-flip-check", {{33, 1 << 6}}},
+    {"block-flips-2", {{9, 1 << 6}, {20, 1 << 13}}},
+    {"block-flips-crossed", {{9, 1 << 13}, {12, 1 << 2}}},
+    {"block-flips-row", {{9, 1 << 6 | 1 << 13}}},
+    {"block-flips-column", {{9, 1 << 6}, {20, 1 << 6}}},
+    {"block-flips-diagonal", {{9, 1 << 6}, {12, 1 << 3}}},
+    {"block-flips-row-check", {{9, 1 << 6}, {32, 1 << 4}}},
+    {"block-flips-column-check", {{9, 1 << 6}, {34, 1 << 3}}},
+    {"block-flips-diagonal-check", {{9, 1 << 6}, {35, 1 << 5}}},
+    {"block-flips-checks", {{33, 1 << 6}, {37, 1 << 15}}},
+    {"block-lost", {{5, 1 << 7}, {9, 1 << 11}, {14, 1 << 2}}},
+};
+
+/* the operation of that name, when what it works on is there; 0 if there is none */
+static operation *prepared(const char *name, int library)
+{
+    for (uint32_t k = 0; k < BLOCKS; k++)
+        for (unsigned w = 0; w < BLOCK_WORDS; w++)
+            blocks[k].words[w] = (uint16_t)draw();
+    for (unsigned o = 0; o < sizeof operations / sizeof *operations; o++)
+        if (strcmp(name, operations[o].name) == 0) {
+            for (uint32_t w = 0; w < WORDS; w++)
+                words[w] = plain_grid(value(w)) ^ operations[o].flips;
+            return library ? operations[o].library : operations[o].plain;
+        }
+    for (unsigned o = 0; o < sizeof block_scrubs / sizeof *block_scrubs; o++)
+        if (strcmp(name, block_scrubs[o].name) == 0) {
+            for (uint32_t k = 0; k < BLOCKS; k++) {
+                plain_block_encode(blocks[k].words, BLOCK_DATA, blocks[k].words, BLOCK_WORDS);
+                for (unsigned f = 0; f < 3; f++)
+                    blocks[k].words[block_scrubs[o].flips[f].word] ^= block_scrubs[o].flips[f].bits;
+            }
+            return library ? library_block_scrubbing : plain_block_scrubbing;
+        }
+    return 0;
+}
 
 int main(int n, char **names)
 {
     int library = n == 4 && strcmp(names[1], "library") == 0, plain = n == 4 && strcmp(names[1], "plain") == 0;
-    for (unsigned k = 0; (library || plain) && k < sizeof operations / sizeof *operations; k++)
-        if (strcmp(names[2], operations[k].name) == 0) {
-            for (uint32_t w = 0; w < WORDS; w++)
-                words[w] = plain_grid(value(w)) ^ operations[k].flips;
-            (library ? operations[k].library : operations[k].plain)((uint32_t)atoi(names[3]));
-            printf("%llx %llx %u\n", (unsigned long long)verdicts[0], (unsigned long long)repaired[0], tally[1]);
-            return 0;
-        }
-    printf("speed: no such operation\n");
-    return 1;
+    operation *run = library || plain ? prepared(names[2], library) : 0;
+    if (run == 0) {
+        printf("speed: no such operation\n");
+        return 1;
+    }
+    run((uint32_t)atoi(names[3]));
+    printf("%llx %llx %u %x %u\n", (unsigned long long)verdicts[0], (unsigned long long)repaired[0], tally[1], block.words[0], returned);
+    return 0;
 }

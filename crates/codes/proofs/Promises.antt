@@ -104,3 +104,8 @@ pub clean-word : (C : Code) → Promises C → (w d : ℕ) → verdict C w ≡ c
 clean-word C P w d e =
     let h : Hands (verdict C w) d 0 = subst (λ v. Hands v d 0) (sym e) (refl, refl) in
     (P .demand3 w .within d 0 h .0, eq-of-dist w (C .encode d) (sym (P .demand3 w .flips d 0 h)))
+
+-- the word put right, clean or mended
+pub answered-repaired : (C : Code) (w d n : ℕ) → repaired C w (answered d n) ≡ C .encode d
+answered-repaired C w d zero = refl
+answered-repaired C w d (suc n) = refl

@@ -7,7 +7,7 @@ use native.Mathlib.Numerals.{add-one}
 use native.Mathlib.Omega.{arith}
 use lib.ListN.{length, getD, take}
 use lib.Seq.{take-suc}
-use Rattle.codes.specs.Verdict.{Code, Verdict, clean, mended, lost, tie, flipsOf, verdict, repaired, scrubbed}
+use Rattle.codes.specs.Verdict.{Code, Verdict, clean, mended, lost, tie, refusal, flipsOf, verdict, repaired, scrubbed}
 use Rattle.codes.specs.Promises.{Hands, Promises}
 use Rattle.codes.specs.Tally.{isClean, isMended, isLost, sumBy, TallyPromises}
 
@@ -60,6 +60,13 @@ settled-flips (clean d) = refl
 settled-flips (mended d n) = refl
 settled-flips lost = refl
 settled-flips tie = refl
+
+settled-number : (k : ℕ) (v : Verdict) → refusal k (settles v) ≡ refusal k v
+unfolding settles
+settled-number k (clean d) = refl
+settled-number k (mended d n) = refl
+settled-number k lost = refl
+settled-number k tie = refl
 
 -- ---- of a list
 
@@ -139,6 +146,23 @@ module _ (C : Code) where
         go (mended d n) e = fits d (in-range w (mended d n) e d n (refl, refl) .0)
         go lost e = l
         go tie e = l
+
+    -- what is found the second time
+    pub again-number : (k w : ℕ) → refusal k (verdict C (scrubbed C w)) ≡ refusal k (verdict C w)
+    again-number k w = ap (refusal k) (settled w .0) ∙ settled-number k (verdict C w)
+
+    pub again-no-flips : (w : ℕ) → flipsOf (verdict C (scrubbed C w)) ≡ 0
+    again-no-flips w = ap flipsOf (settled w .0) ∙ settled-flips (verdict C w)
+
+    -- where nothing is refused the word is a codeword now
+    pub codeword-now : (w : ℕ) → refusal 1 (verdict C w) ≡ 0 → (d : ℕ) × (d < C .values) × (scrubbed C w ≡ C .encode d)
+    codeword-now w z = go (verdict C w) refl z
+      where
+        go : (v : Verdict) → verdict C w ≡ v → refusal 1 v ≡ 0 → (d : ℕ) × (d < C .values) × (repaired C w v ≡ C .encode d)
+        go (clean d) e z = (d, in-range w (clean d) e d 0 (refl, refl) .0, refl)
+        go (mended d n) e z = (d, in-range w (mended d n) e d n (refl, refl) .0, refl)
+        go lost e z = absurd (omega (arith, z))
+        go tie e z = absurd (omega (arith, z))
 
     again-clean : (ws : List ℕ) → sumBy C isClean (map (scrubbed C) ws) ≡ sumBy C isClean ws + sumBy C isMended ws
     again-clean ws =

@@ -11,9 +11,9 @@ use lib.Bits.{bitAnd, bitXor, differ, and-le-r, mask-lt}
 use lib.Dec.{lit<}
 use lib.ListN.{length, getD, length-map}
 use Rattle.words.specs.Word.{bit, dist, combined}
-use Rattle.words.specs.Fields.{joined}
+use Rattle.words.specs.Fields.{joined, Below}
 use Rattle.words.proofs.Bit.{bit-lt, bit-and, bit-low, bit-shr, eq-of-bits}
-use Rattle.words.proofs.Fields.{Below, bit-fields, fields-below, dist-fields}
+use Rattle.words.proofs.Fields.{bit-fields, fields-below, dist-fields}
 use Rattle.words.proofs.Linear.{Linear, same, _⊕_, shr, mask, then, combined-eq, agree}
 use Rattle.words.proofs.Sum.{sum-eq}
 use Rattle.words.proofs.Test.{same-below}

@@ -5,4 +5,3 @@ pub mod Solving
 pub mod Decoder
 pub mod Promises
 pub mod Verdicts
-pub mod Cases

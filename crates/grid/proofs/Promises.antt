@@ -2,7 +2,7 @@
 use mathlib.Core.Path.{_≡_, refl, sym, ap, _∙_, subst}
 use mathlib.Core.Logic.{_≢_, _⊎_, inl, inr}
 use mathlib.Core.List.{List}
-use Prim.Native.Nat.{ℕ, zero, suc, _*_, _^_, _≤_, _<_}
+use Prim.Native.Nat.{ℕ, _*_, _^_, _≤_, _<_}
 use native.Mathlib.Nat.{le-trans, le-antisymm}
 use native.Mathlib.Omega.{arith}
 use lib.Bits.{bitXor, xor-lt}
@@ -15,7 +15,7 @@ use Rattle.words.proofs.Fields.{bit-fields, joined-lt, joined-fields, fields-jo
 use Rattle.words.proofs.Sum.{sum-eq, sum-bits}
 use Rattle.codes.specs.Verdict.{Verdict, clean, mended, lost, tie, IsVerdict, answered, verdict, flipsOf, refusal, repaired, scrubbed}
 use Rattle.codes.specs.Promises.{States, Demand3}
-use Rattle.codes.proofs.Promises.{every-code}
+use Rattle.codes.proofs.Promises.{every-code, answered-repaired}
 use Rattle.codes.proofs.Tally.{scrubbed-lt}
 use Rattle.grid.specs.Equations.{dataBit, dataOf, Codeword}
 use Rattle.grid.specs.Code.{codeword, gridCode}
@@ -104,10 +104,6 @@ module _ (rows : List ℕ) (r : Answer) (h : Decoded rows r) where
     h .repaired ∙ ap (λ (x : ℕ). fields 8 8 (scrubbed gridCode x)) e ∙ ap (λ x. fields 8 8 (repaired gridCode w x)) p,
   )
 
-answered-repaired : (w d n : ℕ) → repaired gridCode w (answered d n) ≡ codeword d
-answered-repaired w d zero = refl
-answered-repaired w d (suc n) = refl
-
 -- a pattern of flips on a written grid
 flipped : (d p : ℕ) → d < 2 ^ 16 → p < 2 ^ 64 → joined 8 (fields 8 8 (bitXor (codeword d) p)) ≡ bitXor (codeword d) p
 flipped d p l h = joined-fields 8 8 (bitXor (codeword d) p) (xor-lt 64 (codeword d) p (codeword-lt d l) h)
@@ -118,7 +114,7 @@ undone d p r l k few h =
     let (v, g) =
     of-word (fields 8 8 (bitXor (codeword d) p)) r h (bitXor (codeword d) p) (answered d (ones p)) (flipped d p l k)
     (promised .verdicts .undone d p l few) in
-    (v, g ∙ ap (fields 8 8) (answered-repaired (bitXor (codeword d) p) d (ones p)))
+    (v, g ∙ ap (fields 8 8) (answered-repaired gridCode (bitXor (codeword d) p) d (ones p)))
 
 -- ---- no second outcome
 

@@ -11,9 +11,8 @@ use lib.Dec.{eqb, lit<}
 use lib.ListN.{length}
 use borrow.Author.Tests.{eq-eqb, ne-eqb, eqb-true}
 use Rattle.words.specs.Word.{dist}
-use Rattle.words.specs.Fields.{fields, joined}
+use Rattle.words.specs.Fields.{fields, joined, Below}
 use Rattle.words.proofs.Bit.{and-twice}
-use Rattle.words.proofs.Fields.{Below}
 use Rattle.codes.specs.Verdict.{Verdict, clean, mended, lost, tie, answered, verdict, repaired, scrubbed}
 use Rattle.codes.specs.Tally.{isClean}
 use Rattle.codes.proofs.Promises.{none-near, found, clean-word}

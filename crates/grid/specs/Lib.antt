@@ -3,5 +3,4 @@ pub mod Code
 pub mod Answer
 pub mod Calls
 pub mod Promises
-pub mod Cases
 pub mod Steps

@@ -7,6 +7,8 @@ ghost use Rattle.grid.specs.Equations.{Codeword};
 use grid::Grid;
 use grid::Verdict;
 
+mod blocks;
+
 // The number of the grid of `value`.
 #[no_mangle]
 pub extern "C" fn grid_encode(value: u16) -> u64

@@ -8,7 +8,7 @@ use native.Mathlib.Nat.{le-of-suc-le-suc, not-suc-le-zero, mod-lt, zero-lt-suc, 
 use native.Mathlib.Omega.{arith}
 use native.Mathlib.Numerals.{add-one, one-add}
 use lib.Arith.{digits-mod, lt-one}
-use lib.Pow.{shr-shr, shr-lt, field, mod-mod-pow, pow-pos}
+use lib.Pow.{shr-shr, shr-lt, field, mod-mod-pow, pow-pos, high, low}
 use lib.Count.{trailingZeros, under}
 use lib.Bits.{bitXor, bitAnd, differ, xor-step, and-step, xor-shr, and-shr, and-le-r}
 use Rattle.words.specs.Word.{bit}
@@ -141,6 +141,13 @@ bit-low k w c h =
     let j : ℕ = k - suc c in
     let e : k ≡ j + 1 + c = omega arith in
     ap (λ (m : ℕ). bit (w % 2 ^ m) c) e ∙ ap (λ (m : ℕ). m % 2) (field w (j + 1) c) ∙ mod-mod-pow (w / 2 ^ c) j 1
+
+-- of a word put together from two parts
+pub bit-lower : (k a b c : ℕ) → b < 2 ^ k → c < k → bit (a * 2 ^ k + b) c ≡ bit b c
+bit-lower k a b c h l = sym (bit-low k (a * 2 ^ k + b) c l) ∙ ap (λ (m : ℕ). bit m c) (low a k h)
+
+pub bit-upper : (k a b c : ℕ) → b < 2 ^ k → bit (a * 2 ^ k + b) (k + c) ≡ bit a c
+bit-upper k a b c h = sym (bit-shr k (a * 2 ^ k + b) c) ∙ ap (λ (m : ℕ). bit m c) (high a k h)
 
 -- ---- words are equal where their bits are
 

@@ -1,23 +1,20 @@
 -- A word as fields of k bits and back: each undoes the other, a place of the word is a place of a field, and the distance of two words is
 -- the sum over their fields. Words put together from parts, and fields that are filled. Assumes nothing.
 use mathlib.Core.Path.{_≡_, refl, sym, ap, ap₂, _∙_, subst}
-use mathlib.Core.List.{List, [], _∷_}
-use Prim.Native.Nat.{ℕ, zero, suc, _+_, _*_, _/_, _%_, _^_, _<_, suc-le-suc}
-use native.Mathlib.Nat.{mod-lt, zero-lt-suc, le-of-suc-le-suc, not-suc-le-zero, suc-mul, add-comm, zero-mul, mod-eq-of-lt}
+use mathlib.Core.List.{List, [], _∷_, _++_}
+use Prim.Native.Nat.{ℕ, zero, suc, _+_, _*_, _/_, _%_, _^_, _≤_, _<_, suc-le-suc}
+use native.Mathlib.Nat.{mod-lt, zero-lt-suc, le-of-suc-le-suc, not-suc-le-zero, suc-mul, add-comm, add-assoc, add-zero, add-mul, mul-assoc, zero-mul, mod-eq-of-lt, div-eq-of-lt, div-one}
 use native.Mathlib.Omega.{arith}
-use lib.ListN.{length, getD, drop}
+use lib.ListN.{length, getD, set, take, drop}
+use lib.Seq.{drop-cons}
 use lib.Arith.{lt-one, digits-lt}
-use lib.Pow.{pow-pos, pow-add, shl-lt, shr-lt, split, high, low}
-use lib.Bits.{bitXor, bitOr, or-shifted, xor-block, xor-lt}
+use lib.Pow.{pow-pos, pow-add, shl-lt, shr-lt, shr-shr, split, high, low, field, mod-mod-pow}
+use lib.Bits.{bitXor, bitOr, or-shifted, xor-block, xor-lt, xor-zero-r}
 use lib.Count.{ones, ones-cat}
 use Rattle.words.specs.Word.{bit, dist, sumTo}
-use Rattle.words.specs.Fields.{fields, joined}
+use Rattle.words.specs.Fields.{fields, joined, Below}
 use Rattle.words.proofs.Bit.{bit-low, bit-shr}
 use Rattle.words.proofs.Dist.{dist-self}
-
--- each field has k bits
-abbrev pub Below : ℕ → List ℕ → Type 0
-Below k xs = (i : ℕ) → getD xs i 0 < 2 ^ k
 
 -- ---- there and back
 
@@ -54,6 +51,73 @@ drop-below k zero xs h = h
 drop-below k (suc n) [] h = h
 drop-below k (suc n) (x ∷ xs) h = drop-below k n xs (λ i. h (suc i))
 
+-- ---- words of a list that are lent, and changed one at a time
+
+pub fields-take : (k n : ℕ) (xs : List ℕ) → n ≤ length xs → Below k xs → fields k n (joined k xs) ≡ take n xs
+fields-take k zero xs l h = refl
+fields-take k (suc n) [] l h = absurd (not-suc-le-zero l)
+fields-take k (suc n) (x ∷ xs) l h =
+    ap₂ {C = List ℕ} (λ (a b : ℕ). a ∷ fields k n b) (low (joined k xs) k (h 0)) (high (joined k xs) k (h 0))
+    ∙ ap {B = List ℕ} (λ l. x ∷ l) (fields-take k n xs (le-of-suc-le-suc l) (λ i. h (suc i)))
+
+-- the first fields of a word
+pub take-fields : (k m n w : ℕ) → m ≤ n → take m (fields k n w) ≡ fields k m w
+take-fields k zero n w h = refl
+take-fields k (suc m) zero w h = absurd (not-suc-le-zero h)
+take-fields k (suc m) (suc n) w h = ap {B = List ℕ} (λ l. w % 2 ^ k ∷ l) (take-fields k m n (w / 2 ^ k) (le-of-suc-le-suc h))
+
+-- the fields of a word's lowest bits
+pub fields-low : (k n w : ℕ) → fields k n (w % 2 ^ (n * k)) ≡ fields k n w
+fields-low k zero w = refl
+fields-low k (suc n) w =
+    ap (λ (m : ℕ). fields k (suc n) (w % 2 ^ m)) (suc-mul n k)
+    ∙ ap₂ {C = List ℕ} (λ (a b : ℕ). a ∷ fields k n b) (mod-mod-pow w (n * k) k) (field w (n * k) k)
+    ∙ ap {B = List ℕ} (λ l. w % 2 ^ k ∷ l) (fields-low k n (w / 2 ^ k))
+
+pub joined-append : (k : ℕ) (xs ys : List ℕ) → joined k (xs ++ ys) ≡ joined k ys * 2 ^ (length xs * k) + joined k xs
+joined-append k [] ys = omega (arith, ap (λ (m : ℕ). joined k ys * 2 ^ m) (zero-mul k))
+joined-append k (x ∷ xs) ys =
+    ap (λ (m : ℕ). m * 2 ^ k + x) (joined-append k xs ys)
+    ∙ regroup (joined k ys) (2 ^ (length xs * k)) (2 ^ k) (joined k xs) x
+    ∙ ap (λ (m : ℕ). joined k ys * m + (joined k xs * 2 ^ k + x))
+    (sym (ap (λ (m : ℕ). 2 ^ m) (suc-mul (length xs) k) ∙ pow-add 2 (length xs * k) k))
+  where
+    regroup : (y p q j x : ℕ) → (y * p + j) * q + x ≡ y * (p * q) + (j * q + x)
+    regroup y p q j x =
+        ap (λ (m : ℕ). m + x) (add-mul (y * p) j q ∙ ap (λ (m : ℕ). m + j * q) (mul-assoc y p q)) ∙ add-assoc (y * (p * q)) (j * q) x
+
+pub joined-drop : (k n : ℕ) (xs : List ℕ) → Below k xs → joined k xs / 2 ^ (n * k) ≡ joined k (drop n xs)
+joined-drop k zero xs h = ap (λ (m : ℕ). joined k xs / 2 ^ m) (zero-mul k) ∙ div-one (joined k xs)
+joined-drop k (suc n) [] h = div-eq-of-lt (pow-pos (suc n * k))
+joined-drop k (suc n) (x ∷ xs) h =
+    ap (λ (m : ℕ). (joined k xs * 2 ^ k + x) / 2 ^ m) (suc-mul n k ∙ add-comm (n * k) k)
+    ∙ sym (shr-shr (joined k xs * 2 ^ k + x) k (n * k))
+    ∙ ap (λ (m : ℕ). m / 2 ^ (n * k)) (high (joined k xs) k (h 0))
+    ∙ joined-drop k n xs (λ i. h (suc i))
+
+-- the next word of those that are left
+pub joined-next : (k n : ℕ) (xs : List ℕ) → n < length xs → joined k (drop n xs) ≡ joined k (drop (suc n) xs) * 2 ^ k + getD xs n 0
+joined-next k n xs l = ap (joined k) (drop-cons xs n 0 l)
+
+-- bits of word i flipped
+pub joined-flip : (k : ℕ) (xs : List ℕ) (i y : ℕ) → i < length xs → Below k xs → y < 2 ^ k
+    → joined k (set xs i (bitXor (getD xs i 0) y)) ≡ bitXor (joined k xs) (y * 2 ^ (i * k))
+joined-flip k [] i y l h b = absurd (not-suc-le-zero l)
+joined-flip k (x ∷ xs) zero y l h b =
+    sym (ap (λ (m : ℕ). m * 2 ^ k + bitXor x y) (xor-zero-r (joined k xs)))
+    ∙ sym (xor-block k (joined k xs) 0 x y (h 0) b)
+    ∙ ap (bitXor (joined k xs * 2 ^ k + x)) (omega (arith, zero-mul (2 ^ k), ap (λ (m : ℕ). y * 2 ^ m) (zero-mul k)))
+joined-flip k (x ∷ xs) (suc i) y l h b =
+    ap (λ (m : ℕ). m * 2 ^ k + x) (joined-flip k xs i y (le-of-suc-le-suc l) (λ i. h (suc i)) b)
+    ∙ sym (ap (λ (m : ℕ). bitXor (joined k xs) (y * 2 ^ (i * k)) * 2 ^ k + m) (xor-zero-r x))
+    ∙ sym (xor-block k (joined k xs) (y * 2 ^ (i * k)) x 0 (h 0) (pow-pos k))
+    ∙ ap (bitXor (joined k xs * 2 ^ k + x)) up
+  where
+    up : y * 2 ^ (i * k) * 2 ^ k + 0 ≡ y * 2 ^ (suc i * k)
+    up =
+        add-zero (y * 2 ^ (i * k) * 2 ^ k) ∙ mul-assoc y (2 ^ (i * k)) (2 ^ k)
+        ∙ ap (λ (m : ℕ). y * m) (sym (ap (λ (m : ℕ). 2 ^ m) (suc-mul i k) ∙ pow-add 2 (i * k) k))
+
 -- a list by its elements
 abbrev pub listed : ℕ → (ℕ → ℕ) → List ℕ
 listed zero f = []
@@ -86,7 +150,7 @@ filled (suc n) w h (suc i) l =
 
 -- ---- the distance is the sum over the fields
 
-dist-cat : (k a b x y : ℕ) → x < 2 ^ k → y < 2 ^ k → dist (a * 2 ^ k + x) (b * 2 ^ k + y) ≡ dist x y + dist a b
+pub dist-cat : (k a b x y : ℕ) → x < 2 ^ k → y < 2 ^ k → dist (a * 2 ^ k + x) (b * 2 ^ k + y) ≡ dist x y + dist a b
 unfolding dist
 dist-cat k a b x y p q =
     ap ones (xor-block k a b x y p q) ∙ ones-cat k (bitXor a b) (bitXor x y) (xor-lt k x y p q) ∙ add-comm (ones (bitXor a b)) (ones (bitXor x y))

@@ -6,3 +6,4 @@ pub mod Fields
 pub mod Lists
 pub mod Test
 pub mod Linear
+pub mod Ones

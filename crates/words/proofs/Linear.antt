@@ -67,7 +67,7 @@ module _ (f : Linear) where
   abbrev pub then : Linear → Linear
   then g = record { at = λ x. g .at (f .at x); sum = λ a b. ap (g .at) (f .sum a b) ∙ g .sum (f .at a) (f .at b) }
 
-  at-zero : f .at 0 ≡ 0
+  pub at-zero : f .at 0 ≡ 0
   at-zero = f .sum 0 0 ∙ xor-self (f .at 0)
 
 pub xor-sum : (f g : Linear) (a b : ℕ)
@@ -156,7 +156,7 @@ combination hs = record {
 -- ---- known at single places, known everywhere
 
 -- the highest place of a word, and the rest
-top : (k x : ℕ) → x < 2 ^ suc k → (x ≡ x % 2 ^ k) ⊎ (x ≡ bitXor (2 ^ k) (x % 2 ^ k))
+pub top : (k x : ℕ) → x < 2 ^ suc k → (x ≡ x % 2 ^ k) ⊎ (x ≡ bitXor (2 ^ k) (x % 2 ^ k))
 top k x h =
     by-bit (λ (q : ℕ). q * 2 ^ k + x % 2 ^ k ≡ x → (x ≡ x % 2 ^ k) ⊎ (x ≡ bitXor (2 ^ k) (x % 2 ^ k)))
     (λ e. inl (sym e ∙ ap (λ (y : ℕ). y + x % 2 ^ k) (zero-mul (2 ^ k)) ∙ zero-add (x % 2 ^ k)))

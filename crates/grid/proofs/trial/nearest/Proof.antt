@@ -6,8 +6,7 @@ use lib.Dec.{lit<}
 use lib.ListN.{length, getD}
 use mir.Syntax.{w8}
 use mir.Val.{Fits}
-use Rattle.words.specs.Fields.{joined}
-use Rattle.words.proofs.Fields.{Below}
+use Rattle.words.specs.Fields.{joined, Below}
 use Rattle.grid.specs.Steps.{mendedRow, Mended, Nearby}
 use Rattle.grid.proofs.Decoder.{made-row, both-trials}
 use borrow.Author.Needs.{needs}

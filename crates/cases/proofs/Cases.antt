@@ -2,24 +2,29 @@
 use mathlib.Core.Path.{_≡_, sym, ap, _∙_, subst}
 use mathlib.Core.Bool.{Bool, false}
 use mathlib.Core.List.{List, [], _∷_}
-use Prim.Native.Nat.{ℕ, zero, suc, _^_, _≤_, _<_}
+use Prim.Native.Nat.{ℕ, zero, suc, _*_, _^_, _≤_, _<_}
 use lib.Bits.{bitXor}
 use lib.Count.{ones}
 use lib.Dec.{T, ltb, leb, eqb, ltb→lt, leb→le, eqb→eq, lit<}
 use Rattle.words.specs.Word.{dist, sumTo}
+use Rattle.words.specs.Fields.{fields}
 use Rattle.words.proofs.Dist.{dist-sym}
 use Rattle.words.proofs.Fields.{dist-fields}
 use Rattle.words.proofs.Test.{both, both-left, both-right, every}
 use Rattle.words.proofs.Xor.{xor-cancel-l}
 use Rattle.codes.specs.Verdict.{Verdict, clean, mended, lost, tie, off, IsVerdict, answered, verdict}
 use Rattle.codes.proofs.Promises.{found}
-use Rattle.grid.specs.Equations.{Codeword}
+use Rattle.grid.specs.Equations as grid
 use Rattle.grid.specs.Code.{codeword, gridCode}
-use Rattle.grid.specs.Cases.{Case, written, read, cases, Says, Hold}
 use Rattle.grid.specs.Steps.{rowOf}
 use Rattle.grid.proofs.Codeword.{is-codeword}
 use Rattle.grid.proofs.Distance.{codeword-lt, distance}
 use Rattle.grid.proofs.Promises.{promised}
+use Rattle.block.specs.Equations as blocks
+use Rattle.block.specs.Code.{odd, stacked, rowsOf, columnsOf, behind, blockCode, codeword as blockOf}
+use Rattle.block.proofs.Promises.{promised as block-promised}
+use Rattle.block.proofs.Syndromes.{system-columns}
+use Rattle.cases.specs.Cases.{Case, ofGrid, read, ofBlock, cases, Says, Hold}
 
 -- ---- what is computed
 
@@ -35,13 +40,20 @@ near? w d n = both (ltb w (2 ^ 64)) (both (ltb d (2 ^ 16)) (both (eqb (apart w d
 lost? : ℕ → Bool
 lost? w = both (ltb w (2 ^ 64)) (eqb (apart w 0) 8)
 
+-- the block of d, with the system parity over the columns: 16 places to count and not 32
+block : ℕ → ℕ
+block d =
+    behind d (rowsOf (fields 16 32 d)) (columnsOf (fields 16 32 d))
+    (bitXor (stacked 1 (λ x. x) (fields 16 32 d)) (odd (columnsOf (fields 16 32 d)) * 2 ^ 47))
+
 right? : Case → Bool
-right? (written d g) = both (ltb d (2 ^ 16)) (eqb (codeword d) g)
+right? (ofGrid d g) = both (ltb d (2 ^ 16)) (eqb (codeword d) g)
 right? (read w (clean d)) = near? w d 0
 right? (read w (mended d zero)) = false
 right? (read w (mended d (suc n))) = near? w d (suc n)
 right? (read w lost) = lost? w
 right? (read w tie) = false
+right? (ofBlock d w) = both (ltb d (2 ^ 512)) (eqb (block d) w)
 
 -- ---- and what follows
 
@@ -74,22 +86,34 @@ far w t =
     dist-sym (codeword 0) w ∙ counted w 0 l (lit< tt) ∙ eqb→eq (apart w 0) 8 (both-right (ltb w (2 ^ 64)) (eqb (apart w 0) 8) t) in
     ap (verdict gridCode) (sym (xor-cancel-l (codeword 0) w)) ∙ promised .eight-are-lost 0 (bitXor (codeword 0) w) (lit< tt) e
 
+same-block : (d : ℕ) → d < 2 ^ 512 → blockOf d ≡ block d
+unfolding blockOf block
+same-block d h =
+    ap (λ (x : ℕ). behind d (rowsOf (fields 16 32 d)) (columnsOf (fields 16 32 d)) (bitXor (stacked 1 (λ x. x) (fields 16 32 d)) (x * 2 ^ 47)))
+    (system-columns d h)
+
 right : (c : Case) → T (right? c) → Says c
 unfolding right?
-right (written d g) t =
+right (ofGrid d g) t =
     let h : d < 2 ^ 16 = ltb→lt d (2 ^ 16) (both-left (ltb d (2 ^ 16)) (eqb (codeword d) g) t) in
     let e : codeword d ≡ g = eqb→eq (codeword d) g (both-right (ltb d (2 ^ 16)) (eqb (codeword d) g) t) in
-    (subst (Codeword d) e (is-codeword d h), has g (clean d) (ap (verdict gridCode) (sym e) ∙ promised .verdicts .unharmed d h))
+    (subst (grid.Codeword d) e (is-codeword d h), has g (clean d) (ap (verdict gridCode) (sym e) ∙ promised .verdicts .unharmed d h))
 right (read w (clean d)) t = has w (clean d) (near w d 0 t)
 right (read w (mended d zero)) t = absurd t
 right (read w (mended d (suc n))) t = has w (mended d (suc n)) (near w d (suc n) t)
 right (read w lost) t = has w lost (far w t)
 right (read w tie) t = absurd t
+right (ofBlock d w) t =
+    let h : d < 2 ^ 512 = ltb→lt d (2 ^ 512) (both-left (ltb d (2 ^ 512)) (eqb (block d) w) t) in
+    let e : blockOf d ≡ w = same-block d h ∙ eqb→eq (block d) w (both-right (ltb d (2 ^ 512)) (eqb (block d) w) t) in (
+      subst (blocks.Codeword d) e (block-promised .meets d h),
+      subst (IsVerdict blockCode w) (ap (verdict blockCode) (sym e) ∙ block-promised .verdicts .unharmed d h) (block-promised .verdicts .settled w .has),
+    )
 
 each : (cs : List Case) → T (every right? cs) → Hold cs
 each [] t = tt
 each (c ∷ cs) t = (right c (both-left (right? c) (every right? cs) t), each cs (both-right (right? c) (every right? cs) t))
 
 pub cases-hold : Hold cases
-unfolding codeword right? near? lost? apart dist ones
+unfolding codeword block stacked right? near? lost? apart dist ones
 cases-hold = each cases tt

@@ -1,0 +1,30 @@
+-- `block::Block::scrub` meets its contract. Assumes nothing.
+use mathlib.Core.Path.{refl, sym, _∙_, subst}
+use mathlib.Core.List.{List}
+use Prim.Native.Nat.{ℕ}
+use native.Mathlib.Omega.{arith}
+use Rattle.block.specs.Steps.{IsNone}
+use Rattle.block.proofs.Outcomes.{other-length, is-clean}
+use borrow.Author.Needs.{needs}
+use Rattle.block.proofs.Block.scrub.Statement.{statement}
+use Rattle.block.proofs.Block.scrub.Tie as tie
+
+returns : tie.Need-returns
+returns c = other-length (c .before .before .args .words .now) (c .if1 .taken)
+
+returns-2 : tie.Need-returns-2
+returns-2 c =
+    let ws : List ℕ = c .before .before .before .before .before .before .args .words .now in
+    let s = c .before .before .syndrome in
+    is-clean ws (omega arith, λ i. omega (arith, c .before .before .before .before .before .slice-known .given i))
+    (sym (s .ensures) ∙ subst (IsNone (s .result)) (c .if2 .taken) (c .before .is-none .ensures) .yes refl)
+
+mend-requires : tie.Need-mend-requires
+mend-requires c κs =
+    let s = c .before .before .before .syndrome in
+    (omega arith, s .ensures, subst (IsNone (s .result)) (c .before .if2 .left) (c .before .before .is-none .ensures) .no refl)
+
+pub scrub-spec : {M : Type 1} → statement M
+scrub-spec =
+    tie.close
+    (tie.spec returns (λ c κs. search needs) (λ c κs. search needs) (λ c. search needs) returns-2 mend-requires (λ c. search needs) (λ c. search needs))

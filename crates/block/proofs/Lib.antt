@@ -1,0 +1,9 @@
+pub mod Stack
+pub mod Syndromes
+pub mod Distance
+pub mod Equations
+pub mod Guesses
+pub mod Search
+pub mod Sums
+pub mod Outcomes
+pub mod Promises

@@ -1,0 +1,33 @@
+-- What each call of the crate promises: one record a call, which determines the answer and every word afterwards. Assumes nothing.
+use mathlib.Core.Path.{_≡_}
+use mathlib.Core.List.{List}
+use Prim.Native.Nat.{ℕ}
+use lib.Dec.{eqb}
+use lib.ListN.{length}
+use Rattle.words.specs.Word.{choose}
+use Rattle.words.specs.Fields.{fields, joined}
+use Rattle.codes.specs.Verdict.{verdict, scrubbed}
+use Rattle.block.specs.Equations.{Codeword}
+use Rattle.block.specs.Code.{codeword, blockCode}
+use Rattle.block.specs.Answer.{answerOf}
+use Rattle.block.specs.declared.Verdict.{Verdict}
+use Rattle.block.specs.declared.Verdict.the-variants.{Length}
+use Rattle.block.specs.declared.Written.{Written}
+use Rattle.block.specs.declared.Written.the-variants.{Done, Length as OtherLength}
+
+-- one outcome where there are 32 words of data and 38 of room, and another where there are not
+abbrev pub whereRoom : {A : Type 0} → List ℕ → List ℕ → A → A → A
+whereRoom values room a b = choose (eqb (length values) 32) (choose (eqb (length room) 38) a b) b
+
+-- `Block::encode`: exactly 32 words in and exactly 38 out: the words of the block of the data, which meets the equations. Any other length is
+-- refused, and nothing is written.
+pub record Encoded (values before : List ℕ) (r : Written) (exit : List ℕ) : Type 0 where
+  pub answer : r ≡ whereRoom values before Done OtherLength
+  pub after : exit ≡ whereRoom values before (fields 16 38 (codeword (joined 16 values))) before
+  pub meets : r ≡ Done → Codeword (joined 16 values) (joined 16 exit)
+
+-- `Block::scrub`: document 01's verdict on exactly 38 words, which afterwards are the codeword, or as they were where there is none. Any
+-- other length is refused, and nothing is written.
+pub record Scrubbed (before : List ℕ) (r : Verdict) (exit : List ℕ) : Type 0 where
+  pub answer : r ≡ choose (eqb (length before) 38) (answerOf (verdict blockCode (joined 16 before))) Length
+  pub after : exit ≡ choose (eqb (length before) 38) (fields 16 38 (scrubbed blockCode (joined 16 before))) before

@@ -1,0 +1,6 @@
+pub mod Equations
+pub mod Code
+pub mod Answer
+pub mod Calls
+pub mod Promises
+pub mod Steps

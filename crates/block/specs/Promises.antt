@@ -1,0 +1,83 @@
+-- What is proved of the block, for all data and all words (`promised`, `encode-promised`, `scrub-promised`, `one-outcome`). Assumes
+-- nothing.
+use mathlib.Core.Path.{_≡_}
+use mathlib.Core.Logic.{_≢_, _⊎_}
+use mathlib.Core.List.{List}
+use Prim.Native.Nat.{ℕ, _^_, _≤_, _<_}
+use lib.Bits.{bitXor}
+use lib.Count.{ones}
+use lib.ListN.{length, getD, take}
+use Rattle.words.specs.Word.{bit, dist}
+use Rattle.words.specs.Fields.{fields, joined, Below}
+use Rattle.codes.specs.Verdict as codes
+use Rattle.codes.specs.Verdict.{IsVerdict}
+use Rattle.codes.specs.Promises.{States, Promises}
+use Rattle.block.specs.Equations.{inWord, Codeword}
+use Rattle.block.specs.Code.{codeword, blockCode}
+use Rattle.block.specs.Answer.{answerOf, numberOf, flipsIn, encodeNumberOf}
+use Rattle.block.specs.Calls.{Encoded, Scrubbed}
+use Rattle.block.specs.declared.Verdict.{Verdict}
+use Rattle.block.specs.declared.Verdict.the-variants.{Clean}
+use Rattle.block.specs.declared.Written.{Written}
+
+pub record BlockPromises : Type 0 where
+  -- Word i is 16 bits of the number, word 0 the lowest, and bit 0 of a word is the lowest.
+  pub places : (w i c : ℕ) → i < 38 → c < 16 → bit (getD (fields 16 38 w) i 0) c ≡ inWord w i c
+  -- From the number to the words and back nothing changes, nor from 38 words to the number and back.
+  pub there-and-back : (w : ℕ) → w < 2 ^ 608 → joined 16 (fields 16 38 w) ≡ w
+  pub back-and-there : (ws : List ℕ) → length ws ≡ 38 → Below 16 ws → fields 16 38 (joined 16 ws) ≡ ws
+  -- Demand 2: encoding equals the parity equations, for all data.
+  pub meets : (d : ℕ) → d < 2 ^ 512 → Codeword d (codeword d)
+  -- They have one solution for each data value, ..
+  pub one-solution : (d g h : ℕ) → Codeword d g → Codeword d h → g ≡ h
+  -- .. and two values never have the same block.
+  pub one-value : (d e g : ℕ) → d < 2 ^ 512 → e < 2 ^ 512 → Codeword d g → Codeword e g → d ≡ e
+  -- The constants: radius 2, 608 places; two different codewords differ in at least 5 places, and some in no more.
+  pub constants : States blockCode 2 608 5
+  -- Demand 3, no tie, and one or two flips undone.
+  pub verdicts : Promises blockCode
+
+-- What the encoder promises.
+pub record EncodePromises : Type 0 where
+  -- Exactly 32 words in and exactly 38 out are accepted; any other length is refusal 3, and nothing is written.
+  pub accepted : (values room exit : List ℕ) (r : Written) → length values ≡ 32 → length room ≡ 38 → Encoded values room r exit
+      → encodeNumberOf r ≡ 0
+  pub refused : (values room exit : List ℕ) (r : Written) → (length values ≢ 32) ⊎ (length room ≢ 38) → Encoded values room r exit
+      → (encodeNumberOf r ≡ 3) × (exit ≡ room)
+  -- What is written meets the equations, and words 0 to 31 are the data as given.
+  pub meets : (values room exit : List ℕ) (r : Written) → Encoded values room r exit → encodeNumberOf r ≡ 0
+      → Codeword (joined 16 values) (joined 16 exit)
+  pub data-kept : (values room exit : List ℕ) (r : Written) → Below 16 values → Encoded values room r exit → encodeNumberOf r ≡ 0
+      → take 32 exit ≡ values
+
+-- What the scrub promises, whatever was read.
+pub record ScrubPromises : Type 0 where
+  -- Any length but 38 is refusal 3, and nothing is written.
+  pub refused : (ws exit : List ℕ) (r : Verdict) → length ws ≢ 38 → Scrubbed ws r exit → (numberOf r ≡ 3) × (exit ≡ ws)
+  -- The answer is that for document 01's verdict, and there is no other verdict.
+  pub is-verdict : (ws exit : List ℕ) (r : Verdict) (v : codes.Verdict) → length ws ≡ 38 → Scrubbed ws r exit
+      → IsVerdict blockCode (joined 16 ws) v → r ≡ answerOf v
+  -- Tie never happens.
+  pub no-tie : (ws exit : List ℕ) (r : Verdict) → Scrubbed ws r exit → numberOf r ≢ 5
+  -- Where nothing is refused the words are a codeword afterwards, so words 0 to 31 are its data; ..
+  pub codeword-now : (ws exit : List ℕ) (r : Verdict) → Scrubbed ws r exit → numberOf r ≡ 0
+      → Codeword (joined 16 (take 32 exit)) (joined 16 exit)
+  -- .. where something is, they are as they were.
+  pub as-read : (ws exit : List ℕ) (r : Verdict) → Below 16 ws → Scrubbed ws r exit → numberOf r ≢ 0 → exit ≡ ws
+  -- The flips are the places in which the words differ from what they were, checks included.
+  pub changed : (ws exit : List ℕ) (r : Verdict) → Below 16 ws → Scrubbed ws r exit → flipsIn r ≡ dist (joined 16 ws) (joined 16 exit)
+  -- What was encoded is clean, and stays as it is.
+  pub encoded : (values room ws exit : List ℕ) (a : Written) (r : Verdict) → Below 16 values → Encoded values room a ws → encodeNumberOf a ≡ 0
+      → Scrubbed ws r exit → (r ≡ Clean) × (exit ≡ ws)
+  -- One or two flips of a written block, checks included, are undone, with the right count.
+  pub undone : (d p : ℕ) (exit : List ℕ) (r : Verdict) → d < 2 ^ 512 → p < 2 ^ 608 → ones p ≤ 2
+      → Scrubbed (fields 16 38 (bitXor (codeword d) p)) r exit → (numberOf r ≡ 0) × (flipsIn r ≡ ones p) × (exit ≡ fields 16 38 (codeword d))
+  -- A second scrub changes nothing. It is clean where the first was not refused, and else as the first.
+  pub again : (ws once twice : List ℕ) (r s : Verdict) → Below 16 ws → Scrubbed ws r once → Scrubbed once s twice
+      → (twice ≡ once) × (flipsIn s ≡ 0) × (numberOf s ≡ numberOf r)
+  pub again-clean : (ws once twice : List ℕ) (r s : Verdict) → Scrubbed ws r once → numberOf r ≡ 0 → Scrubbed once s twice → s ≡ Clean
+
+-- No second outcome satisfies the statement of a call.
+pub record OneOutcome : Type 0 where
+  pub encode : (values room a b : List ℕ) (r s : Written) → Encoded values room r a → Encoded values room s b → (r ≡ s) × (a ≡ b)
+  pub scrub : (ws a b : List ℕ) (r s : Verdict) → Scrubbed ws r a → Scrubbed ws s b → (r ≡ s) × (a ≡ b)

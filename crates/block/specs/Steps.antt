@@ -1,0 +1,108 @@
+-- What the private steps of the block's calls compute, so that their contracts can say it. No promise to a caller cites this file. Assumes
+-- nothing.
+use mathlib.Core.Path.{_≡_}
+use mathlib.Core.Logic.{_≢_, _⊎_}
+use mathlib.Core.Bool.{Bool, true, false}
+use mathlib.Core.List.{List, [], _∷_}
+use Prim.Native.Nat.{ℕ, _+_, _/_, _%_, _^_, _<_}
+use lib.Bits.{bitXor}
+use lib.Count.{trailingZeros}
+use lib.Dec.{eqb}
+use lib.ListN.{getD}
+use Rattle.words.specs.Word.{choose}
+use Rattle.words.specs.Fields.{fields}
+use Rattle.block.specs.Code.{rowsOf, columnsOf, diagonalsOf}
+use Rattle.block.specs.declared.checks.Checks.{Checks}
+use Rattle.block.specs.declared.flips.Flips.{Flips}
+use Rattle.block.specs.declared.flips.Flips.the-variants.{One, Two, More}
+
+-- ---- checks
+
+abbrev pub none : Checks
+none = record { rows = 0; columns = 0; diagonals = 0 }
+
+abbrev pub mixed : Checks → Checks → Checks
+mixed a b = record {
+  rows = bitXor (a .rows) (b .rows);
+  columns = bitXor (a .columns) (b .columns);
+  diagonals = bitXor (a .diagonals) (b .diagonals);
+}
+
+-- what the data words say that the checks are, and what the block w holds
+abbrev pub saidBy : List ℕ → Checks
+saidBy ws = record { rows = rowsOf ws; columns = columnsOf ws; diagonals = diagonalsOf ws }
+
+abbrev pub heldBy : ℕ → Checks
+heldBy w = record { rows = w / 2 ^ 512 % 2 ^ 32; columns = w / 2 ^ 544 % 2 ^ 16; diagonals = w / 2 ^ 560 % 2 ^ 48 }
+
+-- where the two differ
+unfoldable pub syndromeOf : ℕ → Checks
+syndromeOf w = mixed (saidBy (fields 16 32 w)) (heldBy w)
+
+-- .. by one flip, at place p
+abbrev pub columnOf : ℕ → Checks
+columnOf p = syndromeOf (2 ^ p)
+
+-- whether none is set
+pub record IsNone (s : Checks) (r : Bool) : Type 0 where
+  pub yes : r ≡ true → s ≡ none
+  pub no : r ≡ false → s ≢ none
+
+-- the six words that hold them
+abbrev pub checkWords : Checks → List ℕ
+checkWords k =
+    k .rows % 2 ^ 16 ∷ k .rows / 2 ^ 16 ∷ k .columns ∷ k .diagonals % 2 ^ 16 ∷ k .diagonals / 2 ^ 16 % 2 ^ 16 ∷ k .diagonals / 2 ^ 32 ∷ []
+
+-- the lowest check that is set, as a place
+abbrev pub lowestOf : Checks → ℕ
+lowestOf s =
+    choose (eqb (s .rows) 0) (choose (eqb (s .columns) 0) (560 + trailingZeros 64 (s .diagonals)) (544 + trailingZeros 16 (s .columns)))
+    (512 + trailingZeros 32 (s .rows))
+
+-- ---- flips that explain a syndrome
+
+-- whether the place p alone explains s
+pub record Explained (p : ℕ) (s : Checks) (r : Bool) : Type 0 where
+  pub yes : r ≡ true → (p < 608) × (columnOf p ≡ s)
+  pub no : r ≡ false → p < 608 → columnOf p ≢ s
+
+-- r is the place that alone explains s, if there is one, and no place if not
+pub record Alone (s : Checks) (r : ℕ) : Type 0 where
+  pub sound : r < 608 → columnOf r ≡ s
+  pub all : (p : ℕ) → p < 608 → columnOf p ≡ s → r < 608
+
+-- flips that explain s, or N, where there are more than two
+abbrev pub Explains : Checks → Type 0 → Flips → Type 0
+Explains s N (One p) = (p < 608) × (columnOf p ≡ s)
+Explains s N (Two p q) = (p < 608) × (q < 608) × (mixed (columnOf p) (columnOf q) ≡ s)
+Explains s N More = N
+
+-- p is none of at most two flips that explain s
+pub record Fails (s : Checks) (p : ℕ) : Type 0 where
+  pub alone : p < 608 → columnOf p ≢ s
+  pub paired : (q : ℕ) → p < 608 → q < 608 → mixed (columnOf p) (columnOf q) ≢ s
+
+abbrev pub Tried : Checks → ℕ → Flips → Type 0
+Tried s p f = Explains s (Fails s p) f
+
+-- p stands among five
+abbrev pub Among : List ℕ → ℕ → Type 0
+Among ps p = (k : ℕ) × (k < 5) × (getD ps k 0 ≡ p)
+
+-- wherever at most two flips explain s, one of them is among the guesses
+pub record Guessed (s : Checks) (ps : List ℕ) : Type 0 where
+  pub alone : (p : ℕ) → p < 608 → columnOf p ≡ s → Among ps p
+  pub paired : (p q : ℕ) → p < 608 → q < 608 → p ≢ q → mixed (columnOf p) (columnOf q) ≡ s → Among ps p ⊎ Among ps q
+
+-- no one flip and no two explain s
+pub record Unexplained (s : Checks) : Type 0 where
+  pub alone : (p : ℕ) → p < 608 → columnOf p ≢ s
+  pub paired : (p q : ℕ) → p < 608 → q < 608 → p ≢ q → mixed (columnOf p) (columnOf q) ≢ s
+
+abbrev pub Nearest : Checks → Flips → Type 0
+Nearest s f = Explains s (Unexplained s) f
+
+abbrev pub isMore : Flips → Bool
+isMore (One p) = false
+isMore (Two p q) = false
+isMore More = true

@@ -1,0 +1,172 @@
+// The block: 38 words of 16 bits, of which 32 are data; its encoder and its scrubber.
+//
+//     words 0 to 31    data: row r, column c is bit c of word r
+//     words 32, 33     row parities 0 to 15 and 16 to 31
+//     word 34          column parities 0 to 15
+//     words 35 to 37   diagonal t, the parity of the places with r + c = t, is bit t mod 16 of word 35 + t / 16;
+//                      bit 15 of word 37 is the system parity, that of the 512 data bits
+//
+// A row of one word has its own parity beside it, so two blocks that differ in a row differ in two places
+// of it or more, the row's parity counted. In three rows that is six. In two rows it is four, and if the
+// columns agree the two rows are the same, and then the diagonals tell them apart: five. In one row each
+// place counts itself, its column and its diagonal. So two blocks differ in at least five places, and up
+// to two flips leave a block nearer to what was written than to any other.
+//
+// The scrubber guesses a flipped place, and verifies it by the checks that are left (checks, flips).
+//
+// specs/Equations.antt has the parities, specs/Calls.antt what each call promises, and
+// specs/Promises.antt what is proved of the code.
+ghost use mathlib.Core.Path.{_≡_};
+ghost use mathlib.Core.Logic.{_≢_};
+ghost use Prim.Native.Nat.{_^_, _<_};
+ghost use lib.Bits.{bitXor};
+ghost use lib.ListN.{length};
+ghost use lib.Seq.{sets, paste};
+ghost use Rattle.words.specs.Fields.{joined, Below};
+ghost use Rattle.codes.specs.Promises.{States};
+ghost use Rattle.block.specs.Code.{blockCode};
+ghost use Rattle.block.specs.Calls.{Encoded, Scrubbed};
+ghost use Rattle.block.specs.Steps.{none, heldBy, checkWords, syndromeOf};
+use checks::Checks;
+use flips::Flips;
+
+mod checks;
+mod flips;
+
+// The answer of the encoder.
+pub enum Written {
+    Done,
+    Length,
+}
+
+// The answer of a scrub. The data is in the words.
+pub enum Verdict {
+    Clean,
+    Mended { flips: u32 },
+    Lost,
+    Tie,
+    Length,
+}
+
+pub struct Block;
+
+// Words of data, and words in all.
+const VALUES: usize = 32;
+
+const WORDS: usize = 38;
+
+// The 32 data words, to the front.
+fn copy(values: &[u16], words: &mut [u16])
+    requires { ⌜ (length (now values) ≡ 32) × (length (now words) ≡ 38) ⌝ }
+    ensures { λ r. ⌜ (now (words .exit) ≡ paste (now (words .entry)) 0 (now (values .entry)) 32) × Below 16 (now (values .entry)) ⌝ }
+{
+    let mut i: usize = 0;
+    while i < 32 {
+        words[i] = values[i];
+        i += 1;
+    }
+}
+
+// The checks, into the last six words.
+fn hold(words: &mut [u16], k: Checks)
+    requires { ⌜ (length (now words) ≡ 38) × (k .diagonals < 2 ^ 48) ⌝ }
+    ensures { λ r. ⌜ now (words .exit) ≡ sets (now (words .entry)) 32 (checkWords k) ⌝ }
+{
+    let rows = k.rows;
+    let columns = k.columns;
+    let diagonals = k.diagonals;
+    words[32] = (rows & 0xFFFF) as u16;
+    words[33] = (rows >> 16) as u16;
+    words[34] = columns;
+    words[35] = (diagonals & 0xFFFF) as u16;
+    words[36] = ((diagonals >> 16) & 0xFFFF) as u16;
+    words[37] = (diagonals >> 32) as u16;
+}
+
+// The checks that the last six words are.
+fn held(words: &[u16]) -> Checks
+    requires { ⌜ length (now words) ≡ 38 ⌝ }
+    ensures { λ r. ⌜ (r ≡ heldBy (joined 16 (now (words .entry)))) × Below 16 (now (words .entry)) ⌝ }
+{
+    let rows = ((words[33] as u32) << 16) | (words[32] as u32);
+    let upper = ((words[37] as u64) << 16) | (words[36] as u64);
+    Checks {
+        rows,
+        columns: words[34],
+        diagonals: (upper << 16) | (words[35] as u64),
+    }
+}
+
+// Where what the data says and what the block holds differ.
+fn syndrome(words: &[u16]) -> Checks
+    requires { ⌜ length (now words) ≡ 38 ⌝ }
+    ensures { λ r. ⌜ r ≡ syndromeOf (joined 16 (now (words .entry))) ⌝ }
+{
+    checks::mix(checks::said(words), held(words))
+}
+
+// The place flipped.
+fn flip(words: &mut [u16], place: usize)
+    requires { ⌜ (length (now words) ≡ 38) × (place < 608) ⌝ }
+    ensures { λ r. ⌜ joined 16 (now (words .exit)) ≡ bitXor (joined 16 (now (words .entry))) (2 ^ place) ⌝ }
+{
+    let i = place / 16;
+    words[i] = words[i] ^ (1u16 << (place % 16));
+}
+
+// The flips that explain the syndrome s undone, where there are not more than two.
+fn mend(words: &mut [u16], s: Checks) -> Verdict
+    requires { ⌜ (length (now words) ≡ 38) × (s ≡ syndromeOf (joined 16 (now words))) × (s ≢ none) ⌝ }
+    ensures { λ r. ⌜ Scrubbed (now (words .entry)) r (now (words .exit)) ⌝ }
+{
+    match flips::nearest(s) {
+        Flips::One(p) => {
+            flip(words, p);
+            Verdict::Mended { flips: 1 }
+        }
+        Flips::Two(p, q) => {
+            flip(words, p);
+            flip(words, q);
+            Verdict::Mended { flips: 2 }
+        }
+        Flips::More => Verdict::Lost,
+    }
+}
+
+impl Block {
+    pub const RADIUS: u32 = 2;
+
+    pub const LENGTH: u32 = 608;
+
+    pub const DISTANCE: u32 = 5;
+
+    // The block of 32 data words, into 38 words. RADIUS, LENGTH and DISTANCE are the code's own.
+    pub fn encode(values: &[u16], words: &mut [u16]) -> Written
+        ensures { λ r. ⌜ Encoded (now (values .entry)) (now (words .entry)) r (now (words .exit)) ⌝ }
+        ensures constants { λ r. do ⌜ States blockCode (← ⟦Block::RADIUS⟧ .entry) (← ⟦Block::LENGTH⟧ .entry) (← ⟦Block::DISTANCE⟧ .entry) ⌝ }
+    {
+        if values.len() != VALUES {
+            return Written::Length;
+        }
+        if words.len() != WORDS {
+            return Written::Length;
+        }
+        copy(values, words);
+        hold(words, checks::said(values));
+        Written::Done
+    }
+
+    // The nearest codeword in place of the 38 words that were read, where it is within two places.
+    pub fn scrub(words: &mut [u16]) -> Verdict
+        ensures { λ r. ⌜ Scrubbed (now (words .entry)) r (now (words .exit)) ⌝ }
+    {
+        if words.len() != WORDS {
+            return Verdict::Length;
+        }
+        let s = syndrome(words);
+        if checks::is_none(s) {
+            return Verdict::Clean;
+        }
+        mend(words, s)
+    }
+}

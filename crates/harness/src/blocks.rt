@@ -1,0 +1,47 @@
+// The block's calls, with document 01's numbers for their answers.
+ghost use mathlib.Core.Path.{_≡_};
+use block::Block;
+use block::Verdict;
+use block::Written;
+
+// The block of 32 data words, into 38 words. Document 01's number is returned.
+#[no_mangle]
+pub extern "C" fn block_encode(values: &[u16], words: &mut [u16]) -> u32 {
+    match Block::encode(values, words) {
+        Written::Done => 0,
+        Written::Length => 3,
+    }
+}
+
+// A block scrubbed. The flips are returned, with document 01's number from bit 8 on.
+#[no_mangle]
+pub extern "C" fn block_scrub(words: &mut [u16]) -> u32 {
+    match Block::scrub(words) {
+        Verdict::Clean => 0,
+        Verdict::Mended { flips } => flips,
+        Verdict::Lost => 0x200,
+        Verdict::Tie => 0x500,
+        Verdict::Length => 0x300,
+    }
+}
+
+#[no_mangle]
+pub extern "C" fn block_radius() -> u32
+    ensures { λ r. ⌜ r ≡ 2 ⌝ }
+{
+    Block::RADIUS
+}
+
+#[no_mangle]
+pub extern "C" fn block_length() -> u32
+    ensures { λ r. ⌜ r ≡ 608 ⌝ }
+{
+    Block::LENGTH
+}
+
+#[no_mangle]
+pub extern "C" fn block_distance() -> u32
+    ensures { λ r. ⌜ r ≡ 5 ⌝ }
+{
+    Block::DISTANCE
+}

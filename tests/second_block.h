@@ -1,0 +1,24 @@
+/* The second program's block: document 01 once more, in C, written from the document alone and from no line of the library. */
+#include <stdint.h>
+
+/* The block of 32 data words, place by place. The data words may be the block's own. */
+void second_block(const uint16_t values[32], uint16_t words[38]);
+
+/* The same for slices of any length. It returns document 01's number, 0 or 3. */
+uint32_t second_block_encode(const uint16_t *values, uint64_t n, uint16_t *words, uint64_t m);
+
+/* What a scrub returns: document 01's number (0 where nothing is refused, 2 lost, 3 a length not allowed, 5 tie) and the flips (0 on
+   refusal). */
+struct block_answer {
+    uint32_t number, flips;
+};
+
+/* A block scrub by the definition: every pattern of up to two flips is in a table. */
+struct block_answer second_block_scrub(uint16_t *words, uint64_t n);
+
+/* How many patterns of one and two flips the table has, and how many of them cannot be told from another one or from no flip. */
+struct block_patterns {
+    uint32_t count, alike;
+};
+
+struct block_patterns second_block_patterns(void);
