@@ -3,7 +3,7 @@ use mathlib.Core.Path.{_≡_, refl, sym, ap, ap₂, _∙_, subst}
 use mathlib.Core.Logic.{_⊎_, inl, inr, _≢_}
 use mathlib.Core.Bool.{Bool}
 use mathlib.Core.List.{List}
-use Prim.Native.Nat.{ℕ, _+_, _-_, _*_, _/_, _%_, _^_, _≤_, _<_}
+use Prim.Native.Nat.{ℕ, _+_, _-_, _*_, _^_, _≤_, _<_}
 use native.Mathlib.Decide.{decLt}
 use native.Mathlib.Omega.{arith}
 use lib.Bits.{bitXor, xor-comm, xor-zero-r}
@@ -18,7 +18,8 @@ use Rattle.words.proofs.Ones.{ones-two, trailing-pow, trailing-two}
 use Rattle.words.proofs.Xor.{xor-cancel-l, xor-by}
 use Rattle.block.specs.Steps.{mixed, columnOf, lowestOf, Among, Guessed}
 use Rattle.block.specs.declared.checks.Checks.{Checks}
-use Rattle.block.proofs.Syndromes.{mixed-comm, column-data, column-row, column-column, column-diagonal}
+use Rattle.block.proofs.Mixing.{mixed-comm}
+use Rattle.block.proofs.Columns.{dataAt, rowAt, columnAt, diagonalAt, IsData, IsCheck, Check, Kind, kind}
 
 abbrev pub low32 : Checks → ℕ
 low32 s = trailingZeros 32 (s .rows)
@@ -38,20 +39,6 @@ pub record Tries (s : Checks) (ps : List ℕ) : Type 0 where
       → getD ps 3 0 ≡ 16 * low32 s + trailingZeros 16 (bitXor (s .columns) (2 ^ low16 s))
   pub lowest : getD ps 4 0 ≡ lowestOf s
 
--- ---- the columns, by kind
-
-abbrev dataAt : ℕ → ℕ → Checks
-dataAt r c = record { rows = 2 ^ r; columns = 2 ^ c; diagonals = bitXor (2 ^ (r + c)) (2 ^ 47) }
-
-abbrev rowAt : ℕ → Checks
-rowAt k = record { rows = 2 ^ k; columns = 0; diagonals = 0 }
-
-abbrev columnAt : ℕ → Checks
-columnAt k = record { rows = 0; columns = 2 ^ k; diagonals = 0 }
-
-abbrev diagonalAt : ℕ → Checks
-diagonalAt k = record { rows = 0; columns = 0; diagonals = 2 ^ k }
-
 -- ---- numbers with one or two places
 
 one : (n a x : ℕ) → a < n → x ≡ 2 ^ a → trailingZeros n x ≡ a
@@ -65,52 +52,6 @@ not-none a e = absurd (omega (arith, pow-pos a, e))
 
 two-not-none : (a b : ℕ) → a < b → bitXor (2 ^ a) (2 ^ b) ≢ 0
 two-not-none a b l e = absurd (omega (arith, ones-two a b (λ q. absurd (omega arith)), ap ones e ∙ ones-zero))
-
--- ---- the kind of a place
-
-pub record IsData (p : ℕ) (s : Checks) : Type 0 where
-  pub row : ℕ
-  pub column : ℕ
-  pub row-below : row < 32
-  pub column-below : column < 16
-  pub place : 16 * row + column ≡ p
-  pub is : dataAt row column ≡ s
-
-pub record IsCheck (first n : ℕ) (at : ℕ → Checks) (p : ℕ) (s : Checks) : Type 0 where
-  pub k : ℕ
-  pub below : k < n
-  pub place : first + k ≡ p
-  pub is : at k ≡ s
-
-abbrev Check : ℕ → Checks → Type 0
-Check p s = IsCheck 512 32 rowAt p s ⊎ (IsCheck 544 16 columnAt p s ⊎ IsCheck 560 48 diagonalAt p s)
-
-abbrev Kind : ℕ → Checks → Type 0
-Kind p s = IsData p s ⊎ Check p s
-
-kind : (p : ℕ) → p < 608 → Kind p (columnOf p)
-kind p h = go (decLt p 512) (decLt p 544) (decLt p 560)
-  where
-    go : Dec (p < 512) → Dec (p < 544) → Dec (p < 560) → Kind p (columnOf p)
-    go (yes a) b c =
-        let e : 16 * (p / 16) + p % 16 ≡ p = omega arith in
-        inl (record {
-          row = p / 16;
-          column = p % 16;
-          row-below = omega arith;
-          column-below = omega arith;
-          place = e;
-          is = sym (column-data (p / 16) (p % 16) (omega arith) (omega arith)) ∙ ap columnOf e;
-        })
-    go (no a) (yes b) c =
-        let e : 512 + (p - 512) ≡ p = omega arith in
-        inr (inl (record { k = p - 512; below = omega arith; place = e; is = sym (column-row (p - 512) (omega arith)) ∙ ap columnOf e }))
-    go (no a) (no b) (yes c) =
-        let e : 544 + (p - 544) ≡ p = omega arith in
-        inr (inr (inl (record { k = p - 544; below = omega arith; place = e; is = sym (column-column (p - 544) (omega arith)) ∙ ap columnOf e })))
-    go (no a) (no b) (no c) =
-        let e : 560 + (p - 560) ≡ p = omega arith in
-        inr (inr (inr (record { k = p - 560; below = omega arith; place = e; is = sym (column-diagonal (p - 560) (omega arith)) ∙ ap columnOf e })))
 
 module _ (s : Checks) where
   -- ---- the lowest check

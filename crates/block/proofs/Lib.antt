@@ -1,5 +1,7 @@
 pub mod Stack
+pub mod Mixing
 pub mod Syndromes
+pub mod Columns
 pub mod Distance
 pub mod Equations
 pub mod Guesses

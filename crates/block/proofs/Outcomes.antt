@@ -32,7 +32,8 @@ use Rattle.block.specs.declared.Verdict.the-variants.{Clean, Mended, Los
 use Rattle.block.specs.declared.Written.the-variants.{Done, Length as OtherLength}
 use Rattle.block.proofs.Distance.{distance}
 use Rattle.block.proofs.Equations.{meets}
-use Rattle.block.proofs.Syndromes.{syndrome-sum, syndrome-zero, syndrome-codeword, codeword-of, codeword-lt, mixed-self, mixed-none, rows-lt, columns-lt, diagonals-lt}
+use Rattle.block.proofs.Mixing.{mixed-self, mixed-none}
+use Rattle.block.proofs.Syndromes.{syndrome-sum, syndrome-zero, syndrome-codeword, codeword-of, codeword-lt, rows-lt, columns-lt, diagonals-lt}
 
 -- ---- a codeword within two places
 

@@ -10,7 +10,7 @@ use Rattle.block.specs.Steps.{none, mixed, IsNone, lowestOf, columnOf, E
 use Rattle.block.specs.declared.checks.Checks.{Checks}
 use Rattle.block.specs.declared.flips.Flips.{Flips}
 use Rattle.block.specs.declared.flips.Flips.the-variants.{One, Two, More}
-use Rattle.block.proofs.Syndromes.{mixed-self, mixed-comm, mixed-back, eq-of-mixed}
+use Rattle.block.proofs.Mixing.{mixed-self, mixed-comm, mixed-back, eq-of-mixed}
 use Rattle.block.proofs.Guesses.{low32, low16, Named, names}
 
 -- ---- one place

@@ -23,7 +23,7 @@ use Rattle.grid.proofs.Promises.{promised}
 use Rattle.block.specs.Equations as blocks
 use Rattle.block.specs.Code.{odd, stacked, rowsOf, columnsOf, behind, blockCode, codeword as blockOf}
 use Rattle.block.proofs.Promises.{promised as block-promised}
-use Rattle.block.proofs.Syndromes.{system-columns}
+use Rattle.block.proofs.Columns.{system-columns}
 use Rattle.cases.specs.Cases.{Case, ofGrid, read, ofBlock, cases, Says, Hold}
 
 -- ---- what is computed

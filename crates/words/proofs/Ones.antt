@@ -49,7 +49,7 @@ unfolding ones
 ones-one = refl
 
 -- one place above a word of k places
-pub ones-above : (k x : ℕ) → x < 2 ^ k → ones (bitXor (2 ^ k) x) ≡ suc (ones x)
+ones-above : (k x : ℕ) → x < 2 ^ k → ones (bitXor (2 ^ k) x) ≡ suc (ones x)
 ones-above k x h =
     ap ones (ap (λ (y : ℕ). bitXor y x) (sym (one-mul (2 ^ k))) ∙ xor-shifted 1 k x h) ∙ ones-cat k 1 x h ∙ ap (λ (y : ℕ). y + ones x) ones-one
     ∙ omega arith

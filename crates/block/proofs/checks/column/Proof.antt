@@ -5,7 +5,7 @@ use native.Mathlib.Omega.{arith}
 use lib.Bits.{bitXor}
 use Rattle.words.proofs.Ones.{one-up}
 use Rattle.block.specs.Steps.{columnOf}
-use Rattle.block.proofs.Syndromes.{column-data, column-row, column-column, column-diagonal}
+use Rattle.block.proofs.Columns.{column-data, column-row, column-column, column-diagonal}
 use borrow.Author.Needs.{needs}
 use Rattle.block.proofs.checks.column.Statement.{statement}
 use Rattle.block.proofs.checks.column.Tie as tie

@@ -1,5 +1,5 @@
 -- `block::checks::is_none` meets its contract. Assumes nothing.
-use Rattle.block.proofs.Syndromes.{some-rows, some-columns, by-diagonals}
+use Rattle.block.proofs.Mixing.{some-rows, some-columns, by-diagonals}
 use Rattle.block.proofs.checks.is_none.Statement.{statement}
 use Rattle.block.proofs.checks.is_none.Tie as tie
 
