@@ -160,14 +160,12 @@ struct block_answer second_block_scrub(uint16_t *words, uint64_t n)
     return (struct block_answer){.flips = one->flips};
 }
 
-struct block_patterns second_block_patterns(void)
+uint32_t second_block_syndromes(void)
 {
     static const struct syndrome zero;
     const struct pattern *end = patterns + PATTERNS;
-    struct block_patterns found = {0};
-    for (const struct pattern *p = first(&zero); p != end; p++) {
-        found.count++;
-        found.alike += is_zero(&p->syndrome) || (p != patterns && order(&p->syndrome, &p[-1].syndrome) == 0);
-    }
-    return found;
+    uint32_t different = 0;
+    for (const struct pattern *p = first(&zero); p != end; p++)
+        different += !is_zero(&p->syndrome) && (p == patterns || order(&p->syndrome, &p[-1].syndrome) != 0);
+    return different;
 }

@@ -16,9 +16,6 @@ struct block_answer {
 /* A block scrub by the definition: every pattern of up to two flips is in a table. */
 struct block_answer second_block_scrub(uint16_t *words, uint64_t n);
 
-/* How many patterns of one and two flips the table has, and how many of them cannot be told from another one or from no flip. */
-struct block_patterns {
-    uint32_t count, alike;
-};
-
-struct block_patterns second_block_patterns(void);
+/* How many different syndromes other than 0 the patterns of one and two flips have: as many as there are patterns, if each can be told
+   from all others and from no flip. */
+uint32_t second_block_syndromes(void);

@@ -9,6 +9,9 @@ int strcmp(const char *, const char *);
 
 enum { WORDS = 1000, PAGE = 500, NUMBERS = 5, BLOCKS = 200, BLOCK_DATA = 32, BLOCK_WORDS = 38 };
 
+/* An answer is the flips, and from bit 8 on document 01's number, for a word and a block alike; for a grid of a page it is 1 if clean. */
+enum { GRID_LOST = 1 << 8, BLOCK_LOST = 2 << 8 };
+
 /* what is decoded and scrubbed, and the answers */
 static uint64_t words[WORDS], verdicts[WORDS], repaired[WORDS];
 static uint32_t tally[NUMBERS];
@@ -93,51 +96,65 @@ static void plain_block_scrubbing(uint32_t n)
 
 typedef void operation(uint32_t);
 
-/* Each with the places that are flipped in every grid. From `clean` to `lost` a word is decoded; `page-clean` is for one grid of a page.
-   The blocks are any words. */
-static const struct {
-    const char *name;
-    uint64_t flips;
+/* what is counted on both sides, and how many are made at a time */
+struct kind {
     operation *library, *plain;
-} operations[] = {
-    {"encode", 0, library_encoding, plain_encoding},
-    {"clean", 0, library_decoding, plain_decoding},
-    {"flip-1", 0x0000000000000001, library_decoding, plain_decoding},
-    {"flip-3", 0x0000400002000001, library_decoding, plain_decoding},
-    {"flip-7", 0x0102040810204000, library_decoding, plain_decoding},
-    {"both-trials", 0x0000000000070007, library_decoding, plain_decoding},
-    {"lost", 0x000000B1000000B1, library_decoding, plain_decoding},
-    {"page-clean", 0, library_scrubbing, plain_scrubbing},
-    {"block-encode", 0, library_block_encoding, plain_block_encoding},
-    {"block-random", 0, library_block_scrubbing, plain_block_scrubbing},
+    uint32_t many;
 };
 
-/* The other block scrubs, each with what is flipped in every block, in up to three words. Where the name does not say it, data places are
-   in different rows and columns and on different diagonals. In `block-flips-crossed` the one in the upper row is right of the other; a name
-   that ends in `-check` after `flips` is for a data place and such a check. */
+static const struct kind encoding = {library_encoding, plain_encoding, 1};
+static const struct kind decoding = {library_decoding, plain_decoding, WORDS};
+static const struct kind scrubbing = {library_scrubbing, plain_scrubbing, PAGE};
+static const struct kind block_encoding = {library_block_encoding, plain_block_encoding, BLOCKS};
+static const struct kind block_scrubbing = {library_block_scrubbing, plain_block_scrubbing, BLOCKS};
+
+/* Each with what every answer has to be, and the places that are flipped in every grid. From `clean` to `lost` a word is decoded;
+   `page-clean` is for one grid of a page. The blocks are any words. */
 static const struct {
     const char *name;
+    const struct kind *kind;
+    uint32_t answer;
+    uint64_t flips;
+} operations[] = {
+    {"encode", &encoding, 0, 0},
+    {"clean", &decoding, 0, 0},
+    {"flip-1", &decoding, 1, 0x0000000000000001},
+    {"flip-3", &decoding, 3, 0x0000400002000001},
+    {"flip-7", &decoding, 7, 0x0102040810204000},
+    {"both-trials", &decoding, 6, 0x0000000000070007},
+    {"lost", &decoding, GRID_LOST, 0x000000B1000000B1},
+    {"page-clean", &scrubbing, 1, 0},
+    {"block-encode", &block_encoding, 0, 0},
+    {"block-random", &block_scrubbing, BLOCK_LOST, 0},
+};
+
+/* The other block scrubs, each with its answer and with what is flipped in every block, in up to three words. Where the name does not
+   say it, data places are in different rows and columns and on different diagonals. In `block-flips-crossed` the lower row has the higher
+   column; a name that ends in `-check` after `flips` is for a data place and such a check. */
+static const struct {
+    const char *name;
+    uint32_t answer;
     struct {
         uint16_t word, bits;
     } flips[3];
 } block_scrubs[] = {
-    {"block-clean", {{0}}},
-    {"block-flip-1", {{9, 1 << 6}}},
-    {"block-flip-check", {{33, 1 << 6}}},
-    {"block-flips-2", {{9, 1 << 6}, {20, 1 << 13}}},
-    {"block-flips-crossed", {{9, 1 << 13}, {12, 1 << 2}}},
-    {"block-flips-row", {{9, 1 << 6 | 1 << 13}}},
-    {"block-flips-column", {{9, 1 << 6}, {20, 1 << 6}}},
-    {"block-flips-diagonal", {{9, 1 << 6}, {12, 1 << 3}}},
-    {"block-flips-row-check", {{9, 1 << 6}, {32, 1 << 4}}},
-    {"block-flips-column-check", {{9, 1 << 6}, {34, 1 << 3}}},
-    {"block-flips-diagonal-check", {{9, 1 << 6}, {35, 1 << 5}}},
-    {"block-flips-checks", {{33, 1 << 6}, {37, 1 << 15}}},
-    {"block-lost", {{5, 1 << 7}, {9, 1 << 11}, {14, 1 << 2}}},
+    {"block-clean", 0, {{0}}},
+    {"block-flip-1", 1, {{9, 1 << 6}}},
+    {"block-flip-check", 1, {{33, 1 << 6}}},
+    {"block-flips-2", 2, {{9, 1 << 6}, {20, 1 << 13}}},
+    {"block-flips-crossed", 2, {{9, 1 << 13}, {12, 1 << 2}}},
+    {"block-flips-row", 2, {{9, 1 << 6 | 1 << 13}}},
+    {"block-flips-column", 2, {{9, 1 << 6}, {20, 1 << 6}}},
+    {"block-flips-diagonal", 2, {{9, 1 << 6}, {12, 1 << 3}}},
+    {"block-flips-row-check", 2, {{9, 1 << 6}, {32, 1 << 4}}},
+    {"block-flips-column-check", 2, {{9, 1 << 6}, {34, 1 << 3}}},
+    {"block-flips-diagonal-check", 2, {{9, 1 << 6}, {35, 1 << 5}}},
+    {"block-flips-checks", 2, {{33, 1 << 6}, {37, 1 << 15}}},
+    {"block-lost", BLOCK_LOST, {{5, 1 << 7}, {9, 1 << 11}, {14, 1 << 2}}},
 };
 
-/* the operation of that name, when what it works on is there; 0 if there is none */
-static operation *prepared(const char *name, int library)
+/* the kind of the operation of that name, and what its answer has to be, when what it works on is there; 0 if there is none */
+static const struct kind *prepared(const char *name, uint32_t *answer)
 {
     for (uint32_t k = 0; k < BLOCKS; k++)
         for (unsigned w = 0; w < BLOCK_WORDS; w++)
@@ -146,7 +163,8 @@ static operation *prepared(const char *name, int library)
         if (strcmp(name, operations[o].name) == 0) {
             for (uint32_t w = 0; w < WORDS; w++)
                 words[w] = plain_grid(value(w)) ^ operations[o].flips;
-            return library ? operations[o].library : operations[o].plain;
+            *answer = operations[o].answer;
+            return operations[o].kind;
         }
     for (unsigned o = 0; o < sizeof block_scrubs / sizeof *block_scrubs; o++)
         if (strcmp(name, block_scrubs[o].name) == 0) {
@@ -155,17 +173,36 @@ static operation *prepared(const char *name, int library)
                 for (unsigned f = 0; f < 3; f++)
                     blocks[k].words[block_scrubs[o].flips[f].word] ^= block_scrubs[o].flips[f].bits;
             }
-            return library ? library_block_scrubbing : plain_block_scrubbing;
+            *answer = block_scrubs[o].answer;
+            return &block_scrubbing;
         }
     return 0;
+}
+
+/* the sum of the answers */
+static uint32_t answers(void)
+{
+    uint32_t sum = tally[1] + returned;
+    for (uint32_t w = 0; w < WORDS; w++)
+        sum += (uint32_t)(verdicts[w] >> 16);
+    return sum;
 }
 
 int main(int n, char **names)
 {
     int library = n == 4 && strcmp(names[1], "library") == 0, plain = n == 4 && strcmp(names[1], "plain") == 0;
-    operation *run = library || plain ? prepared(names[2], library) : 0;
-    if (run == 0) {
+    uint32_t answer;
+    const struct kind *kind = library || plain ? prepared(names[2], &answer) : 0;
+    if (kind == 0) {
         printf("speed: no such operation\n");
+        return 1;
+    }
+
+    /* once for the answers: where they are others, there is nothing to count */
+    operation *run = library ? kind->library : kind->plain;
+    run(kind->many);
+    if (answers() != kind->many * answer) {
+        printf("speed: %s, %s: the answers add up to %u, and not to %u\n", names[1], names[2], answers(), kind->many * answer);
         return 1;
     }
     run((uint32_t)atoi(names[3]));

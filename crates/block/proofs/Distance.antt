@@ -4,12 +4,12 @@
 use mathlib.Core.Path.{_≡_, refl, sym, ap, ap₂, _∙_, subst}
 use mathlib.Core.Logic.{_⊎_, inl, inr}
 use Prim.Native.Nat.{ℕ, zero, suc, _+_, _*_, _/_, _%_, _^_, _≤_, _<_}
-use native.Mathlib.Nat.{mod-lt, mul-one, mul-assoc, mul-le-mul-left}
+use native.Mathlib.Nat.{eq-zero-or-pos, mod-lt, mul-one, mul-assoc, mul-le-mul-left}
 use native.Mathlib.Decide.{decLt}
 use native.Mathlib.Omega.{arith}
 use lib.Arith.{lt-one}
 use lib.Bits.{bitXor, xor-comm, xor-shifted, xor-zero-r, xor-lt}
-use lib.Count.{ones, ones-cat}
+use lib.Count.{ones, ones-cat, ones-ones}
 use lib.Dec.{lit<}
 use lib.Pow.{pow-pos, pow-add, shr-lt, split}
 use Rattle.words.specs.Word.{dist}
@@ -18,7 +18,7 @@ use Rattle.words.proofs.Bit.{by-bit, odd-lt}
 use Rattle.words.proofs.Dist.{ones-zero, zero-of-ones}
 use Rattle.words.proofs.Fields.{dist-cat}
 use Rattle.words.proofs.Linear.{same, at-zero}
-use Rattle.words.proofs.Ones.{ones-one, ones-shl}
+use Rattle.words.proofs.Ones.{ones-shl}
 use Rattle.words.proofs.Xor.{eq-of-xor}
 use Rattle.codes.specs.Promises.{Distance, States}
 use Rattle.block.specs.Code.{odd, stacked, rowsOf, columnsOf, diagonalsOf, codeword, blockCode}
@@ -38,7 +38,7 @@ D n x = stack 1 same n .at x
 -- ---- one row and the rest
 
 ones-odd : (x : ℕ) → ones (odd x) ≡ odd x
-ones-odd x = by-bit (λ (y : ℕ). ones y ≡ y) ones-zero ones-one (odd x) (odd-lt (ones x))
+ones-odd x = by-bit (λ (y : ℕ). ones y ≡ y) ones-zero (ones-ones 1) (odd x) (odd-lt (ones x))
 
 some-ones : (x : ℕ) → 0 < x → 0 < ones x
 some-ones x h = go (decLt 0 (ones x))
@@ -127,13 +127,9 @@ laid n x p (inr (inl s)) =
     inr (inr (omega (arith, ones-next n x, rows-next n x, two-at-least (u n x) p, two-at-least (s .row) (s .some), s .places, s .rows)))
 laid n x p (inr (inr m)) = inr (inr (omega (arith, ones-next n x, rows-next n x)))
 
-zero-or-more : (x : ℕ) → (x ≡ 0) ⊎ (0 < x)
-zero-or-more zero = inl refl
-zero-or-more (suc x) = inr (omega arith)
-
 lines : (n x : ℕ) → x < 2 ^ (16 * n) → Lines n x
 lines zero x h = inl (lt-one h)
-lines (suc n) x h = go (zero-or-more (u n x)) (lines n (rest n x) (shr-lt (16 * n) 16 (subst (λ (k : ℕ). x < 2 ^ k) (omega arith) h)))
+lines (suc n) x h = go (eq-zero-or-pos (u n x)) (lines n (rest n x) (shr-lt (16 * n) 16 (subst (λ (k : ℕ). x < 2 ^ k) (omega arith) h)))
   where
     go : (u n x ≡ 0) ⊎ (0 < u n x) → Lines n (rest n x) → Lines (suc n) x
     go (inl z) l = skipped n x z l
@@ -169,7 +165,7 @@ five-laid n x p (inr (inl s)) =
     omega (arith, ones-next n x, rows-next n x, two-at-least (u n x) p, two-at-least (s .row) (s .some), s .places, s .rows, more)
   where
     more : 1 ≤ ones (C (suc n) x) + ones (D (suc n) x)
-    more = go (zero-or-more (ones (C (suc n) x))) (zero-or-more (ones (D (suc n) x)))
+    more = go (eq-zero-or-pos (ones (C (suc n) x))) (eq-zero-or-pos (ones (D (suc n) x)))
       where
         go : (ones (C (suc n) x) ≡ 0) ⊎ (0 < ones (C (suc n) x)) → (ones (D (suc n) x) ≡ 0) ⊎ (0 < ones (D (suc n) x))
             → 1 ≤ ones (C (suc n) x) + ones (D (suc n) x)
@@ -193,7 +189,7 @@ weight-skipped n x z =
 
 five : (n x : ℕ) → x < 2 ^ (16 * n) → 0 < x → 5 ≤ weight n x
 five zero x h p = absurd (omega (arith, lt-one h))
-five (suc n) x h p = go (zero-or-more (u n x)) (five n (rest n x) small)
+five (suc n) x h p = go (eq-zero-or-pos (u n x)) (five n (rest n x) small)
   where
     small : rest n x < 2 ^ (16 * n)
     small = shr-lt (16 * n) 16 (subst (λ (k : ℕ). x < 2 ^ k) (omega arith) h)
@@ -204,7 +200,7 @@ five (suc n) x h p = go (zero-or-more (u n x)) (five n (rest n x) small)
 
 -- ---- of codewords
 
-pub apart : (d e : ℕ) → d < 2 ^ 512 → e < 2 ^ 512 → dist (codeword d) (codeword e) ≡ weight 32 (bitXor d e)
+apart : (d e : ℕ) → d < 2 ^ 512 → e < 2 ^ 512 → dist (codeword d) (codeword e) ≡ weight 32 (bitXor d e)
 unfolding codeword dist
 apart d e hd he =
     dist-cat 512 (top d) (top e) d e hd he
@@ -231,7 +227,7 @@ apart d e hd he =
 
 pub distance : Distance blockCode 5
 distance d e hd he ne =
-    subst (λ (y : ℕ). 5 ≤ y) (sym (apart d e hd he)) (five 32 (bitXor d e) (xor-lt 512 d e hd he) (some (zero-or-more (bitXor d e))))
+    subst (λ (y : ℕ). 5 ≤ y) (sym (apart d e hd he)) (five 32 (bitXor d e) (xor-lt 512 d e hd he) (some (eq-zero-or-pos (bitXor d e))))
   where
     some : (bitXor d e ≡ 0) ⊎ (0 < bitXor d e) → 0 < bitXor d e
     some (inl z) = absurd (ne (eq-of-xor d e z))

@@ -17,7 +17,7 @@ use Rattle.words.proofs.Sum.{sum-eq, sum-none, sum-single, sum-parity}
 use Rattle.block.specs.Equations.{inWord, parityWhere, Codeword}
 use Rattle.block.specs.Code.{rowsOf, columnsOf, diagonalsOf, codeword}
 use Rattle.block.proofs.Syndromes.{rowSums, columnSums, diagonalSums, rows-lt, columns-lt, codeword-lt}
-use Rattle.block.proofs.Columns.{rows-at, columns-at, diagonals-at}
+use Rattle.block.proofs.Places.{rows-at, columns-at, diagonals-at}
 
 -- ---- a parity over places
 

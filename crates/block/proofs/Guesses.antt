@@ -1,6 +1,6 @@
 -- Wherever one flip or two explain a syndrome, one of them is among the five guesses. Assumes nothing.
 use mathlib.Core.Path.{_≡_, refl, sym, ap, ap₂, _∙_, subst}
-use mathlib.Core.Logic.{_⊎_, inl, inr, _≢_}
+use mathlib.Core.Logic.{_⊎_, inl, inr, ⊎-swap, _≢_}
 use mathlib.Core.Bool.{Bool}
 use mathlib.Core.List.{List}
 use Prim.Native.Nat.{ℕ, _+_, _-_, _*_, _^_, _≤_, _<_}
@@ -16,10 +16,10 @@ use Rattle.words.specs.Word.{choose}
 use Rattle.words.proofs.Dist.{ones-zero}
 use Rattle.words.proofs.Ones.{ones-two, trailing-pow, trailing-two}
 use Rattle.words.proofs.Xor.{xor-cancel-l, xor-by}
-use Rattle.block.specs.Steps.{mixed, columnOf, lowestOf, Among, Guessed}
+use Rattle.block.specs.Steps.{mixed, ofPlace, lowestOf, Among, Guessed}
 use Rattle.block.specs.declared.checks.Checks.{Checks}
 use Rattle.block.proofs.Mixing.{mixed-comm}
-use Rattle.block.proofs.Columns.{dataAt, rowAt, columnAt, diagonalAt, IsData, IsCheck, Check, Kind, kind}
+use Rattle.block.proofs.Places.{dataAt, rowAt, columnAt, diagonalAt, IsData, IsCheck, Check, Kind, kind}
 
 abbrev pub low32 : Checks → ℕ
 low32 s = trailingZeros 32 (s .rows)
@@ -96,13 +96,17 @@ module _ (s : Checks) where
   named p a (inl x) e =
       let r : low32 s ≡ x .row = one 32 (x .row) (s .rows) (x .row-below) (sym (ap (λ (s : Checks). s .rows) (x .is ∙ e))) in
       let c : low16 s ≡ x .column = one 16 (x .column) (s .columns) (x .column-below) (sym (ap (λ (s : Checks). s .columns) (x .is ∙ e))) in
-      inl (subst (λ (y : ℕ). y < 32) (sym r) (x .row-below), subst (λ (y : ℕ). y < 16) (sym c) (x .column-below), ap₂ (λ (a b : ℕ). 16 * a + b) r c ∙ x .place)
+      inl (
+        subst (λ (y : ℕ). y < 32) (sym r) (x .row-below),
+        subst (λ (y : ℕ). y < 16) (sym c) (x .column-below),
+        ap₂ (λ (a b : ℕ). 16 * a + b) r c ∙ x .place,
+      )
   named p a (inr (inl x)) e = inr (row-alone (x .k) (x .below) (x .is ∙ e) ∙ x .place)
   named p a (inr (inr (inl x))) e = inr (column-alone (x .k) (x .below) (x .is ∙ e) ∙ x .place)
   named p a (inr (inr (inr x))) e = inr (diagonal-alone (x .k) (x .below) (x .is ∙ e) ∙ x .place)
 
-  pub names : (p : ℕ) → p < 608 → columnOf p ≡ s → Named p
-  names p h e = named p (columnOf p) (kind p h) e
+  pub names : (p : ℕ) → p < 608 → ofPlace p ≡ s → Named p
+  names p h e = named p (ofPlace p) (kind p h) e
 
 module _ (s : Checks) (ps : List ℕ) (T : Tries s ps) where
   -- ---- what names a place
@@ -262,11 +266,6 @@ module _ (s : Checks) (ps : List ℕ) (T : Tries s ps) where
   data-first p q a b x (inr (inr (inr y))) ne e =
       inl (subst (Among ps) (x .place) (data-diagonal s ps T (x .row) (x .column) (y .k) (x .row-below) (x .column-below) (ap₂ mixed (x .is) (y .is) ∙ e)))
 
-  -- the other one
-  swapped : {P Q : Type 0} → P ⊎ Q → Q ⊎ P
-  swapped (inl x) = inr x
-  swapped (inr y) = inl y
-
   row-first : (p : ℕ) (a b : Checks) → IsCheck 512 32 rowAt p a → b .rows ≡ 0 → mixed a b ≡ s → Among ps p
   row-first p a b x z e = subst (Among ps) (x .place) (row-other s ps T (x .k) b (x .below) z (ap (λ (a : Checks). mixed a b) (x .is) ∙ e))
 
@@ -290,7 +289,7 @@ module _ (s : Checks) (ps : List ℕ) (T : Tries s ps) where
 
   paired : (p q : ℕ) (a b : Checks) → Kind p a → Kind q b → p ≢ q → mixed a b ≡ s → Among ps p ⊎ Among ps q
   paired p q a b (inl x) y ne e = data-first p q a b x y ne e
-  paired p q a b (inr x) (inl y) ne e = swapped (data-first q p b a y (inr x) (λ z. ne (sym z)) (mixed-comm b a ∙ e))
+  paired p q a b (inr x) (inl y) ne e = ⊎-swap (data-first q p b a y (inr x) (λ z. ne (sym z)) (mixed-comm b a ∙ e))
   paired p q a b (inr x) (inr y) ne e = two-checks p q a b x y ne e
 
   alone : (p : ℕ) → Named s p → Among ps p
@@ -300,5 +299,5 @@ module _ (s : Checks) (ps : List ℕ) (T : Tries s ps) where
   pub guessed : Guessed s ps
   guessed = record {
     alone = λ p h e. alone p (names s p h e);
-    paired = λ p q hp hq ne e. paired p q (columnOf p) (columnOf q) (kind p hp) (kind q hq) ne e;
+    paired = λ p q hp hq ne e. paired p q (ofPlace p) (ofPlace q) (kind p hp) (kind q hq) ne e;
   }

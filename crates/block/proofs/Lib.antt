@@ -1,7 +1,7 @@
 pub mod Stack
 pub mod Mixing
 pub mod Syndromes
-pub mod Columns
+pub mod Places
 pub mod Distance
 pub mod Equations
 pub mod Guesses

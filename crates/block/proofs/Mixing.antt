@@ -1,16 +1,15 @@
 -- Checks that are mixed, number by number, and whether none is set. Assumes nothing.
-use mathlib.Core.Path.{_≡_, sym, ap, _∙_}
+use mathlib.Core.Path.{_≡_, sym, ap}
 use mathlib.Core.Logic.{_≢_}
 use mathlib.Core.Bool.{false, true≢false}
-use Prim.Native.Nat.{ℕ}
-use lib.Bits.{bitXor, xor-self, xor-comm, xor-zero-r}
+use lib.Bits.{xor-self, xor-comm, xor-zero-r}
 use lib.Dec.{eqb}
 use borrow.Author.Tests.{eqb-true, eqb-false}
 use Rattle.words.proofs.Xor.{eq-of-xor, xor-cancel-l}
-use Rattle.block.specs.Steps.{none, mixed, IsNone}
+use Rattle.block.specs.Steps.{noChecks, mixed, IsNone}
 use Rattle.block.specs.declared.checks.Checks.{Checks}
 
-pub mixed-self : (k : Checks) → mixed k k ≡ none
+pub mixed-self : (k : Checks) → mixed k k ≡ noChecks
 mixed-self k = λ i. record { rows = xor-self (k .rows) i; columns = xor-self (k .columns) i; diagonals = xor-self (k .diagonals) i }
 
 pub mixed-comm : (a b : Checks) → mixed a b ≡ mixed b a
@@ -20,19 +19,17 @@ mixed-comm a b = λ i. record {
   diagonals = xor-comm (a .diagonals) (b .diagonals) i;
 }
 
-pub mixed-back : (a b : Checks) → mixed a (mixed b a) ≡ b
-mixed-back a b =
-    let back : (x y : ℕ) → bitXor x (bitXor y x) ≡ y = λ x y. ap (bitXor x) (xor-comm y x) ∙ xor-cancel-l x y in
-    λ i. record {
-      rows = back (a .rows) (b .rows) i;
-      columns = back (a .columns) (b .columns) i;
-      diagonals = back (a .diagonals) (b .diagonals) i;
-    }
+pub mixed-back : (a b : Checks) → mixed a (mixed a b) ≡ b
+mixed-back a b = λ i. record {
+  rows = xor-cancel-l (a .rows) (b .rows) i;
+  columns = xor-cancel-l (a .columns) (b .columns) i;
+  diagonals = xor-cancel-l (a .diagonals) (b .diagonals) i;
+}
 
-pub mixed-none : (k : Checks) → mixed k none ≡ k
+pub mixed-none : (k : Checks) → mixed k noChecks ≡ k
 mixed-none k = λ i. record { rows = xor-zero-r (k .rows) i; columns = xor-zero-r (k .columns) i; diagonals = xor-zero-r (k .diagonals) i }
 
-pub eq-of-mixed : (a b : Checks) → mixed a b ≡ none → a ≡ b
+pub eq-of-mixed : (a b : Checks) → mixed a b ≡ noChecks → a ≡ b
 eq-of-mixed a b e =
     let r = eq-of-xor (a .rows) (b .rows) (ap (λ (k : Checks). k .rows) e) in
     let c = eq-of-xor (a .columns) (b .columns) (ap (λ (k : Checks). k .columns) e) in

@@ -1,10 +1,10 @@
 -- What the calls leave and answer, over plain values: a block written, and a block found clean, mended or lost. Assumes nothing.
 use mathlib.Core.Path.{_≡_, refl, sym, ap, ap₂, _∙_, subst}
 use mathlib.Core.Logic.{_≢_, _⊎_, inl, inr}
-use mathlib.Core.Bool.{Bool, true, false}
+use mathlib.Core.Bool.{Bool, true, false, _&&_}
 use mathlib.Core.List.{List, [], _∷_, _++_, append-nil}
 use Prim.Native.Nat.{ℕ, zero, suc, _+_, _*_, _/_, _%_, _^_, _≤_, _<_}
-use native.Mathlib.Nat.{mod-lt}
+use native.Mathlib.Nat.{mod-lt, zero-add}
 use native.Mathlib.Decide.{decLt}
 use native.Mathlib.Omega.{arith}
 use lib.Bits.{bitXor, xor-lt}
@@ -25,10 +25,10 @@ use Rattle.codes.proofs.Promises.{found, none-near}
 use Rattle.block.specs.Code.{codeword, blockCode, rowsOf, columnsOf, diagonalsOf}
 use Rattle.block.specs.Equations.{Codeword}
 use Rattle.block.specs.Answer.{answerOf, encodeNumberOf}
-use Rattle.block.specs.Calls.{whereRoom, Encoded, Scrubbed}
-use Rattle.block.specs.Steps.{none, mixed, saidBy, heldBy, checkWords, syndromeOf, columnOf, Unexplained}
+use Rattle.block.specs.Calls.{allowed, Encoded, Scrubbed}
+use Rattle.block.specs.Steps.{noChecks, mixed, saidBy, heldBy, checkWords, syndromeOf, ofPlace, Unexplained}
 use Rattle.block.specs.declared.checks.Checks.{Checks}
-use Rattle.block.specs.declared.Verdict.the-variants.{Clean, Mended, Lost, Length}
+use Rattle.block.specs.declared.Outcome.the-variants.{Clean, Mended, Lost, Length}
 use Rattle.block.specs.declared.Written.the-variants.{Done, Length as OtherLength}
 use Rattle.block.proofs.Distance.{distance}
 use Rattle.block.proofs.Equations.{meets}
@@ -37,20 +37,11 @@ use Rattle.block.proofs.Syndromes.{syndrome-sum, syndrome-zero, syndrom
 
 -- ---- a codeword within two places
 
-module _ (w v : ℕ) (hw : w < 2 ^ 608) (hv : v < 2 ^ 608) (is : syndromeOf v ≡ none) where
-  abbrev value : ℕ
-  value = v % 2 ^ 512
-
-  same-word : v ≡ codeword value
-  same-word = codeword-of v hv is
-
-  pub near : dist w v ≤ 2 → verdict blockCode w ≡ answered value (dist w v)
-  near l =
-      let e : dist w v ≡ off blockCode w value = ap (dist w) same-word in
-      found blockCode 5 distance (lit< tt) w value (mod-lt v (pow-pos 512)) (subst (λ (n : ℕ). n ≤ 2) e l) ∙ ap (answered value) (sym e)
-
-  pub put-right : (n : ℕ) → dist w v ≡ n → n ≤ 2 → verdict blockCode w ≡ answered value n
-  put-right n e l = near (subst (λ (n : ℕ). n ≤ 2) (sym e) l) ∙ ap (answered value) e
+near : (w v n : ℕ) → v < 2 ^ 608 → syndromeOf v ≡ noChecks → dist w v ≡ n → n ≤ 2 → verdict blockCode w ≡ answered (v % 2 ^ 512) n
+near w v n h is e l =
+    let o : off blockCode w (v % 2 ^ 512) ≡ n = sym (ap (dist w) (codeword-of v h is)) ∙ e in
+    found blockCode 5 distance (lit< tt) w (v % 2 ^ 512) (mod-lt v (pow-pos 512)) (subst (λ (n : ℕ). n ≤ 2) (sym o) l)
+    ∙ ap (answered (v % 2 ^ 512)) o
 
 -- ---- words before and after
 
@@ -58,10 +49,10 @@ abbrev pub IsBlock : List ℕ → Type 0
 IsBlock ws = (length ws ≡ 38) × Below 16 ws
 
 pub block-lt : (ws : List ℕ) → IsBlock ws → joined 16 ws < 2 ^ 608
-block-lt ws (n, h) = subst (λ (n : ℕ). joined 16 ws < 2 ^ (n * 16)) n (joined-lt 16 ws h)
+block-lt ws (n, h) = joined-lt 16 38 ws n h
 
 pub back : (ws : List ℕ) → IsBlock ws → fields 16 38 (joined 16 ws) ≡ ws
-back ws (n, h) = ap (λ (n : ℕ). fields 16 n (joined 16 ws)) (sym n) ∙ fields-joined 16 ws h
+back ws (n, h) = fields-joined 16 38 ws n h
 
 module _ (ws : List ℕ) (b : IsBlock ws) where
   abbrev w : ℕ
@@ -81,10 +72,10 @@ module _ (ws : List ℕ) (b : IsBlock ws) where
         ∙ ap (λ v. fields 16 38 (repaired blockCode w v)) e);
   }
 
-  pub is-clean : syndromeOf w ≡ none → Scrubbed ws Clean ws
+  pub is-clean : syndromeOf w ≡ noChecks → Scrubbed ws Clean ws
   is-clean s =
       let hw : w < 2 ^ 608 = block-lt ws b in
-      scrubs (clean (w % 2 ^ 512)) ws (put-right w w hw hw s 0 (dist-self w) (omega arith))
+      scrubs (clean (w % 2 ^ 512)) ws (near w w 0 hw s (dist-self w) (omega arith))
       (sym (back ws b) ∙ ap (fields 16 38) (codeword-of w hw s))
 
   -- what is left after flips f, as many as f has ones
@@ -94,23 +85,23 @@ module _ (ws : List ℕ) (b : IsBlock ws) where
       let hw : w < 2 ^ 608 = block-lt ws b in
       let v : ℕ = bitXor w f in
       let hv : v < 2 ^ 608 = xor-lt 608 w f hw hf in
-      let z : syndromeOf v ≡ none = syndrome-sum w f ∙ ap (mixed (syndromeOf w)) s ∙ mixed-self (syndromeOf w) in
-      scrubs (mended (v % 2 ^ 512) (suc n)) exit (put-right w v hw hv z (suc n) (dist-sym w v ∙ dist-flips w f ∙ o) l)
+      let z : syndromeOf v ≡ noChecks = syndrome-sum w f ∙ ap (mixed (syndromeOf w)) s ∙ mixed-self (syndromeOf w) in
+      scrubs (mended (v % 2 ^ 512) (suc n)) exit (near w v (suc n) hv z (dist-sym w v ∙ dist-flips w f ∙ o) l)
       (sym (back exit x) ∙ ap (fields 16 38) (e ∙ codeword-of v hv z))
 
-  pub mends-one : (p : ℕ) (exit : List ℕ) → p < 608 → columnOf p ≡ syndromeOf w → IsBlock exit → joined 16 exit ≡ bitXor w (2 ^ p)
+  pub mends-one : (p : ℕ) (exit : List ℕ) → p < 608 → ofPlace p ≡ syndromeOf w → IsBlock exit → joined 16 exit ≡ bitXor w (2 ^ p)
       → Scrubbed ws (Mended 1) exit
   mends-one p exit h s x e = mends (2 ^ p) 0 exit (pow-lt h) s (ones-pow p) (lit< tt) x e
 
-  pub mends-two : (p q : ℕ) (exit : List ℕ) → p < 608 → q < 608 → mixed (columnOf p) (columnOf q) ≡ syndromeOf w → syndromeOf w ≢ none
+  pub mends-two : (p q : ℕ) (exit : List ℕ) → p < 608 → q < 608 → mixed (ofPlace p) (ofPlace q) ≡ syndromeOf w → syndromeOf w ≢ noChecks
       → IsBlock exit → joined 16 exit ≡ bitXor (bitXor w (2 ^ p)) (2 ^ q) → Scrubbed ws (Mended 2) exit
   mends-two p q exit hp hq s some x e =
       mends (bitXor (2 ^ p) (2 ^ q)) 1 exit (xor-lt 608 (2 ^ p) (2 ^ q) (pow-lt hp) (pow-lt hq)) (syndrome-sum (2 ^ p) (2 ^ q) ∙ s)
-      (ones-two p q (λ i. some (sym s ∙ ap (λ (r : ℕ). mixed (columnOf p) (columnOf r)) (sym i) ∙ mixed-self (columnOf p)))) (lit< tt) x
+      (ones-two p q (λ i. some (sym s ∙ ap (λ (r : ℕ). mixed (ofPlace p) (ofPlace r)) (sym i) ∙ mixed-self (ofPlace p)))) (lit< tt) x
       (e ∙ xor-assoc w (2 ^ p) (2 ^ q))
 
   -- a codeword within two places would explain the syndrome
-  near-explains : (d : ℕ) → d < 2 ^ 512 → syndromeOf w ≢ none → Unexplained (syndromeOf w) → AtMostTwo 608 (bitXor w (codeword d)) → ⊥
+  near-explains : (d : ℕ) → d < 2 ^ 512 → syndromeOf w ≢ noChecks → Unexplained (syndromeOf w) → AtMostTwo 608 (bitXor w (codeword d)) → ⊥
   near-explains d l some un few = go few
     where
       f : ℕ
@@ -126,7 +117,7 @@ module _ (ws : List ℕ) (b : IsBlock ws) where
           un .paired (t .first) (t .second) (t .below .0) (t .below .1) (t .apart)
           (sym (same ∙ ap syndromeOf (t .is) ∙ syndrome-sum (2 ^ t .first) (2 ^ t .second)))
 
-  pub is-lost : syndromeOf w ≢ none → Unexplained (syndromeOf w) → Scrubbed ws Lost ws
+  pub is-lost : syndromeOf w ≢ noChecks → Unexplained (syndromeOf w) → Scrubbed ws Lost ws
   is-lost some un = scrubs lost ws (none-near blockCode w (λ d l. far d l (decLt 2 (off blockCode w d)))) (sym (back ws b))
     where
       far : (d : ℕ) → d < 2 ^ 512 → Dec (2 < off blockCode w d) → 2 < off blockCode w d
@@ -145,25 +136,34 @@ syndrome-is ws (n, h) = ap (λ xs. mixed (saidBy xs) (heldBy (joined 16 ws))) (s
 
 -- ---- whether the lengths are right
 
-pub room-fits : {A : Type 0} (values room : List ℕ) → length values ≡ 32 → length room ≡ 38 → (a b : A) → whereRoom values room a b ≡ a
-room-fits values room n m a b =
-    ap₂ (λ (s t : Bool). choose s (choose t a b) b) (eq-eqb (length values) 32 n) (eq-eqb (length room) 38 m)
+pub is-allowed : (values before : List ℕ) → length values ≡ 32 → length before ≡ 38 → allowed values before ≡ true
+is-allowed values before n m = ap₂ _&&_ (eq-eqb (length values) 32 n) (eq-eqb (length before) 38 m)
 
-pub room-other : {A : Type 0} (values room : List ℕ) → (length values ≢ 32) ⊎ (length room ≢ 38) → (a b : A) → whereRoom values room a b ≡ b
-room-other values room (inl ne) a b =
-    ap (λ (t : Bool). choose t (choose (eqb (length room) 38) a b) b) (ne-eqb (length values) 32 ne)
-room-other values room (inr ne) a b =
-    ap (λ (t : Bool). choose (eqb (length values) 32) (choose t a b) b) (ne-eqb (length room) 38 ne) ∙ either (eqb (length values) 32)
+pub not-allowed : (values before : List ℕ) → (length values ≢ 32) ⊎ (length before ≢ 38) → allowed values before ≡ false
+not-allowed values before (inl ne) = ap (λ (t : Bool). t && eqb (length before) 38) (ne-eqb (length values) 32 ne)
+not-allowed values before (inr ne) = ap (λ (t : Bool). eqb (length values) 32 && t) (ne-eqb (length before) 38 ne) ∙ never (eqb (length values) 32)
   where
-    either : (t : Bool) → choose t b b ≡ b
-    either true = refl
-    either false = refl
+    never : (t : Bool) → (t && false) ≡ false
+    never true = refl
+    never false = refl
+
+-- the answer and the words, by the test
+encodes : (values before exit : List ℕ) (t : Bool) → allowed values before ≡ t
+    → exit ≡ choose t (fields 16 38 (codeword (joined 16 values))) before
+    → (choose t Done OtherLength ≡ Done → Codeword (joined 16 values) (joined 16 exit)) → Encoded values before (choose t Done OtherLength) exit
+encodes values before exit t e x k = record {
+  answer = sym (ap (λ (t : Bool). choose t Done OtherLength) e);
+  after = x ∙ sym (ap {B = List ℕ} (λ (t : Bool). choose t (fields 16 38 (codeword (joined 16 values))) before) e);
+  meets = k;
+}
 
 -- ---- the six check words
 
 -- the words that hold checks, as a number
 joined-checks : (k : Checks) → joined 16 (checkWords k) ≡ (k .diagonals * 2 ^ 16 + k .columns) * 2 ^ 32 + k .rows
-joined-checks k = all (k .rows) (k .columns) (k .diagonals) (k .diagonals / 2 ^ 16) (split (k .rows) 16) (split (k .diagonals) 16) (split (k .diagonals / 2 ^ 16) 16)
+joined-checks k =
+    all (k .rows) (k .columns) (k .diagonals) (k .diagonals / 2 ^ 16) (split (k .rows) 16) (split (k .diagonals) 16)
+    (split (k .diagonals / 2 ^ 16) 16)
   where
     all : (r c d e : ℕ) → r / 2 ^ 16 * 2 ^ 16 + r % 2 ^ 16 ≡ r → e * 2 ^ 16 + d % 2 ^ 16 ≡ d → e / 2 ^ 16 * 2 ^ 16 + e % 2 ^ 16 ≡ e
         → (((((0 + d / 2 ^ 32) * 2 ^ 16 + e % 2 ^ 16) * 2 ^ 16 + d % 2 ^ 16) * 2 ^ 16 + c) * 2 ^ 16 + r / 2 ^ 16) * 2 ^ 16 + r % 2 ^ 16
@@ -185,7 +185,7 @@ module _ (values : List ℕ) (n : length values ≡ 32) (h : Below 16 values) wh
 
   -- the data, and what it says behind it
   data-words : fields 16 32 (joined 16 values) ≡ values
-  data-words = ap (λ (n : ℕ). fields 16 n (joined 16 values)) (sym n) ∙ fields-joined 16 values h
+  data-words = fields-joined 16 32 values n h
 
   pub small : (said .rows < 2 ^ 32) × (said .columns < 2 ^ 16) × (said .diagonals < 2 ^ 48)
   small =
@@ -212,17 +212,18 @@ module _ (values : List ℕ) (n : length values ≡ 32) (h : Below 16 values) wh
 
   block-words : values ++ checkWords said ≡ fields 16 38 (codeword (joined 16 values))
   block-words =
-      sym (fields-joined 16 (values ++ checkWords said) below-all)
-      ∙ ap₂ (λ (m x : ℕ). fields 16 m x) (length-append values (checkWords said) ∙ ap (λ (m : ℕ). m + 6) n) codeword-words
+      sym (fields-joined 16 38 (values ++ checkWords said) (length-append values (checkWords said) ∙ ap (λ (m : ℕ). m + 6) n) below-all)
+      ∙ ap (fields 16 38) codeword-words
 
   module _ (before : List ℕ) (m : length before ≡ 38) where
     -- the data pasted in, and the checks stored behind it
-    pub stored : (k : Checks) → sets (paste before 0 values 32) 32 (checkWords k) ≡ values ++ checkWords k
+    stored : (k : Checks) → sets (paste before 0 values 32) 32 (checkWords k) ≡ values ++ checkWords k
     stored k =
         let all : length (paste before 0 values 32) ≡ 38 = length-paste before 0 values 32 (omega arith) (omega arith) ∙ m in
         sets-eq (checkWords k) (paste before 0 values 32) 32 (omega (arith, all))
         ∙ ap₂ {C = List ℕ} (λ (xs ys : List ℕ). xs ++ checkWords k ++ ys)
-        (take-at (take 32 values) (drop 32 before) 32 (ap length front ∙ n) ∙ front) (drop-of-length-le (paste before 0 values 32) {i = 38} (omega (arith, all)))
+        (take-at (take 32 values) (drop 32 before) 32 (ap length front ∙ n) ∙ front)
+        (drop-of-length-le (paste before 0 values 32) {i = 38} (omega (arith, all)))
         ∙ append-nil (values ++ checkWords k)
       where
         front : take 32 values ≡ values
@@ -233,23 +234,14 @@ module _ (values : List ℕ) (n : length values ≡ 32) (h : Below 16 values) wh
     encoded k exit e x =
         let words : exit ≡ values ++ checkWords said =
         x ∙ stored k ∙ ap (λ (k : Checks). values ++ checkWords k) (e ∙ ap saidBy (take-all 32 values (omega arith))) in
-        record {
-          answer = sym (room-fits values before n m Done OtherLength);
-          after = words ∙ block-words ∙ sym (room-fits values before n m (fields 16 38 (codeword (joined 16 values))) before);
-          meets = λ done. subst (Codeword (joined 16 values)) (sym (ap (joined 16) words ∙ codeword-words)) (meets (joined 16 values) values-lt);
-        }
-      where
-        values-lt : joined 16 values < 2 ^ 512
-        values-lt = subst (λ (n : ℕ). joined 16 values < 2 ^ (n * 16)) n (joined-lt 16 values h)
+        encodes values before exit true (is-allowed values before n m) (words ∙ block-words)
+        (λ done. subst (Codeword (joined 16 values)) (sym (ap (joined 16) words ∙ codeword-words)) (meets (joined 16 values) (joined-lt 16 32 values n h)))
 
 -- ---- other lengths
 
 pub not-encoded : (values before : List ℕ) → (length values ≢ 32) ⊎ (length before ≢ 38) → Encoded values before OtherLength before
-not-encoded values before other = record {
-  answer = sym (room-other values before other Done OtherLength);
-  after = sym (room-other values before other (fields 16 38 (codeword (joined 16 values))) before);
-  meets = λ done. absurd (omega (arith, ap encodeNumberOf done));
-}
+not-encoded values before other =
+    encodes values before before false (not-allowed values before other) refl (λ done. absurd (omega (arith, ap encodeNumberOf done)))
 
 pub other-length : (ws : List ℕ) → length ws ≢ 38 → Scrubbed ws Length ws
 other-length ws ne = record {
@@ -282,10 +274,13 @@ holds ws n h = λ i. record { rows = rows i; columns = columns i; diagonals = di
     none-left : past 38 ≡ 0
     none-left = ap (joined 16) (drop-of-length-le ws {i = 38} (omega arith))
 
+    last : past 37 ≡ getD ws 37 0
+    last = joined-next 16 37 ws (omega arith) ∙ ap (λ (x : ℕ). x * 2 ^ 16 + getD ws 37 0) none-left ∙ zero-add (getD ws 37 0)
+
     diagonals : joined 16 ws / 2 ^ 560 % 2 ^ 48 ≡ (getD ws 37 0 * 2 ^ 16 + getD ws 36 0) * 2 ^ 16 + getD ws 35 0
     diagonals =
         ap (λ (x : ℕ). x % 2 ^ 48)
         (joined-drop 16 35 ws h ∙ joined-next 16 35 ws (omega arith)
         ∙ ap (λ (x : ℕ). x * 2 ^ 16 + getD ws 35 0)
-        (joined-next 16 36 ws (omega arith) ∙ ap (λ (x : ℕ). x * 2 ^ 16 + getD ws 36 0) (joined-next 16 37 ws (omega arith) ∙ ap (λ (x : ℕ). x * 2 ^ 16 + getD ws 37 0) none-left)))
+        (joined-next 16 36 ws (omega arith) ∙ ap (λ (x : ℕ). x * 2 ^ 16 + getD ws 36 0) last))
         ∙ omega (arith, h 35, h 36, h 37)

@@ -3,7 +3,7 @@ use mathlib.Core.Path.{_≡_, refl, sym, ap, _∙_, subst}
 use mathlib.Core.Logic.{_≢_, _⊎_, inl, inr}
 use mathlib.Core.Bool.{Bool, true, false}
 use mathlib.Core.List.{List}
-use Prim.Native.Nat.{ℕ, zero, suc, _*_, _^_, _≤_, _<_}
+use Prim.Native.Nat.{ℕ, zero, suc, _^_, _≤_, _<_}
 use native.Mathlib.Decide.{ℕ-discrete}
 use native.Mathlib.Omega.{arith}
 use lib.Bits.{bitXor, xor-lt}
@@ -14,25 +14,25 @@ use borrow.Author.Tests.{eq-eqb, ne-eqb}
 use Rattle.words.specs.Word.{choose, dist}
 use Rattle.words.specs.Fields.{fields, joined, Below}
 use Rattle.words.proofs.Dist.{dist-self}
-use Rattle.words.proofs.Fields.{bit-fields, length-fields, fields-low, take-fields, joined-fields, joined-lt, fields-joined}
+use Rattle.words.proofs.Fields.{bit-fields, length-fields, take-fields, joined-fields, joined-lt, fields-joined}
 use Rattle.codes.specs.Verdict as codes
 use Rattle.codes.specs.Verdict.{clean, mended, lost, tie, answered, refusal, flipsOf, verdict, repaired, scrubbed}
 use Rattle.codes.specs.Promises.{Promises}
-use Rattle.codes.proofs.Promises.{every-code, answered-repaired}
+use Rattle.codes.proofs.Promises.{every-code, found, none-near, answered-repaired}
 use Rattle.codes.proofs.Tally.{scrubbed-lt, tallies, again-number, again-no-flips, codeword-now}
 use Rattle.block.specs.Equations.{Codeword}
 use Rattle.block.specs.Code.{codeword, blockCode}
 use Rattle.block.specs.Answer.{answerOf, numberOf, flipsIn, encodeNumberOf}
-use Rattle.block.specs.Calls.{Encoded, Scrubbed}
+use Rattle.block.specs.Calls.{allowed, Encoded, Scrubbed}
 use Rattle.block.specs.Promises.{BlockPromises, EncodePromises, ScrubPromises, OneOutcome}
-use Rattle.block.specs.declared.Verdict.{Verdict}
-use Rattle.block.specs.declared.Verdict.the-variants.{Clean, Length}
+use Rattle.block.specs.declared.Outcome.{Outcome}
+use Rattle.block.specs.declared.Outcome.the-variants.{Clean, Tie, Length}
 use Rattle.block.specs.declared.Written.{Written}
 use Rattle.block.specs.declared.Written.the-variants.{Done, Length as OtherLength}
 use Rattle.block.proofs.Distance.{distance, constants}
 use Rattle.block.proofs.Equations.{meets, one-solution, one-value}
-use Rattle.block.proofs.Outcomes.{block-lt, back, room-fits, room-other}
-use Rattle.block.proofs.Syndromes.{codeword-lt, codeword-data}
+use Rattle.block.proofs.Outcomes.{block-lt, back, is-allowed, not-allowed}
+use Rattle.block.proofs.Syndromes.{codeword-lt, data-words}
 
 verdicts : Promises blockCode
 verdicts = every-code blockCode .promises 5 distance (lit< tt)
@@ -54,28 +54,32 @@ promised = record {
 -- the words of a codeword: the data in front
 front : (d : ℕ) → d < 2 ^ 512 → take 32 (fields 16 38 (codeword d)) ≡ fields 16 32 d
 front d h =
-    take-fields 16 32 38 (codeword d) (omega arith) ∙ sym (fields-low 16 32 (codeword d)) ∙ ap (fields 16 32) (codeword-data d h)
+    take-fields 16 32 38 (codeword d) (omega arith) ∙ data-words d h
 
 whole : (d : ℕ) → d < 2 ^ 512 → joined 16 (fields 16 38 (codeword d)) ≡ codeword d
 whole d h = joined-fields 16 38 (codeword d) (codeword-lt d h)
 
-module _ (values room exit : List ℕ) (r : Written) (h : Encoded values room r exit) where
+module _ (values before exit : List ℕ) (r : Written) (h : Encoded values before r exit) where
   -- a block was written, or not
   abbrev Written-or : Type 0
   Written-or =
-      ((length values ≡ 32) × (r ≡ Done) × (exit ≡ fields 16 38 (codeword (joined 16 values)))) ⊎ ((r ≡ OtherLength) × (exit ≡ room))
+      ((length values ≡ 32) × (r ≡ Done) × (exit ≡ fields 16 38 (codeword (joined 16 values)))) ⊎ ((r ≡ OtherLength) × (exit ≡ before))
 
-  not-written : (length values ≢ 32) ⊎ (length room ≢ 38) → (r ≡ OtherLength) × (exit ≡ room)
-  not-written other = (
-    h .answer ∙ room-other values room other Done OtherLength,
-    h .after ∙ room-other values room other (fields 16 38 (codeword (joined 16 values))) room,
+  by-test : (t : Bool) → allowed values before ≡ t
+      → (r ≡ choose t Done OtherLength) × (exit ≡ choose t (fields 16 38 (codeword (joined 16 values))) before)
+  by-test t e = (
+    h .answer ∙ ap (λ (t : Bool). choose t Done OtherLength) e,
+    h .after ∙ ap {B = List ℕ} (λ (t : Bool). choose t (fields 16 38 (codeword (joined 16 values))) before) e,
   )
 
+  not-written : (length values ≢ 32) ⊎ (length before ≢ 38) → (r ≡ OtherLength) × (exit ≡ before)
+  not-written other = by-test false (not-allowed values before other)
+
   written-or : Written-or
-  written-or = go (ℕ-discrete (length values) 32) (ℕ-discrete (length room) 38)
+  written-or = go (ℕ-discrete (length values) 32) (ℕ-discrete (length before) 38)
     where
-      go : Dec (length values ≡ 32) → Dec (length room ≡ 38) → Written-or
-      go (yes n) (yes m) = inl (n, h .answer ∙ room-fits values room n m Done OtherLength, h .after ∙ room-fits values room n m (fields 16 38 (codeword (joined 16 values))) room)
+      go : Dec (length values ≡ 32) → Dec (length before ≡ 38) → Written-or
+      go (yes n) (yes m) = let (a, x) = by-test true (is-allowed values before n m) in inl (n, a, x)
       go (yes n) (no m) = inr (not-written (inr m))
       go (no n) m = inr (not-written (inl n))
 
@@ -86,18 +90,15 @@ module _ (values room exit : List ℕ) (r : Written) (h : Encoded values room r 
       go (inl x) = x
       go (inr (e, x)) = absurd (omega (arith, z, ap encodeNumberOf e))
 
-data-lt : (values : List ℕ) → length values ≡ 32 → Below 16 values → joined 16 values < 2 ^ 512
-data-lt values n h = subst (λ (n : ℕ). joined 16 values < 2 ^ (n * 16)) n (joined-lt 16 values h)
-
 pub encode-promised : EncodePromises
 encode-promised = record {
-  accepted = λ values room exit r n m h. ap encodeNumberOf (h .answer ∙ room-fits values room n m Done OtherLength);
-  refused = λ values room exit r other h. let (e, x) = not-written values room exit r h other in (ap encodeNumberOf e, x);
-  meets = λ values room exit r h z. let (n, e, x) = done values room exit r h z in h .meets e;
-  data-kept = λ values room exit r small h z.
-      let (n, e, x) = done values room exit r h z in
-      ap (take 32) x ∙ front (joined 16 values) (data-lt values n small)
-      ∙ ap (λ (n : ℕ). fields 16 n (joined 16 values)) (sym n) ∙ fields-joined 16 values small;
+  accepted = λ values before exit r n m h. ap encodeNumberOf (by-test values before exit r h true (is-allowed values before n m) .0);
+  refused = λ values before exit r other h. let (e, x) = not-written values before exit r h other in (ap encodeNumberOf e, x);
+  meets = λ values before exit r h z. let (n, e, x) = done values before exit r h z in h .meets e;
+  data-kept = λ values before exit r small h z.
+      let (n, e, x) = done values before exit r h z in
+      ap (take 32) x ∙ front (joined 16 values) (joined-lt 16 32 values n small)
+      ∙ fields-joined 16 32 values n small;
 }
 
 -- ---- the scrub
@@ -115,31 +116,26 @@ flips-in (mended d n) = refl
 flips-in lost = refl
 flips-in tie = refl
 
-not-refused : (v : codes.Verdict) → refusal 2 v ≡ 0 → refusal 1 v ≡ 0
-not-refused (clean d) e = refl
-not-refused (mended d n) e = refl
-not-refused lost e = absurd (omega (arith, e))
-not-refused tie e = absurd (omega (arith, e))
-
 as-it-was : (w : ℕ) (v : codes.Verdict) → refusal 2 v ≢ 0 → repaired blockCode w v ≡ w
 as-it-was w (clean d) ne = absurd (ne refl)
 as-it-was w (mended d n) ne = absurd (ne refl)
 as-it-was w lost ne = refl
 as-it-was w tie ne = refl
 
-never-5 : (v : codes.Verdict) → v ≢ tie → refusal 2 v ≢ 5
-never-5 (clean d) ne e = absurd (omega (arith, e))
-never-5 (mended d n) ne e = absurd (omega (arith, e))
-never-5 lost ne e = absurd (omega (arith, e))
-never-5 tie ne e = ne refl
+-- lost is the one refusal, since tie never happens
+zero-or-two : (v : codes.Verdict) → v ≢ tie → (refusal 2 v ≡ 0) ⊎ (refusal 2 v ≡ 2)
+zero-or-two (clean d) ne = inl refl
+zero-or-two (mended d n) ne = inl refl
+zero-or-two lost ne = inr refl
+zero-or-two tie ne = absurd (ne refl)
 
 -- a block was judged, or its length is another
-abbrev Judged : List ℕ → List ℕ → Verdict → Type 0
+abbrev Judged : List ℕ → List ℕ → Outcome → Type 0
 Judged ws exit r =
     ((length ws ≡ 38) × (r ≡ answerOf (verdict blockCode (joined 16 ws))) × (exit ≡ fields 16 38 (scrubbed blockCode (joined 16 ws))))
     ⊎ ((length ws ≢ 38) × (r ≡ Length) × (exit ≡ ws))
 
-judged : (ws exit : List ℕ) (r : Verdict) → Scrubbed ws r exit → Judged ws exit r
+judged : (ws exit : List ℕ) (r : Outcome) → Scrubbed ws r exit → Judged ws exit r
 judged ws exit r h = go (ℕ-discrete (length ws) 38)
   where
     by : (t : Bool) → eqb (length ws) 38 ≡ t
@@ -154,7 +150,7 @@ judged ws exit r h = go (ℕ-discrete (length ws) 38)
     go (no n) = let (a, x) = by false (ne-eqb (length ws) 38 n) in inr (n, a, x)
 
 -- .. on a word that is known with its verdict
-of-word : (ws exit : List ℕ) (r : Verdict) (w : ℕ) (v : codes.Verdict) → length ws ≡ 38 → joined 16 ws ≡ w → verdict blockCode w ≡ v
+of-word : (ws exit : List ℕ) (r : Outcome) (w : ℕ) (v : codes.Verdict) → length ws ≡ 38 → joined 16 ws ≡ w → verdict blockCode w ≡ v
     → Judged ws exit r → (r ≡ answerOf v) × (exit ≡ fields 16 38 (repaired blockCode w v))
 of-word ws exit r w v n e p (inl (m, a, x)) = (
   a ∙ ap answerOf (ap (verdict blockCode) e ∙ p),
@@ -170,17 +166,30 @@ scrubbed-number ws exit n small x =
     ∙ joined-fields 16 38 (scrubbed blockCode (joined 16 ws))
     (scrubbed-lt blockCode verdicts (2 ^ 608) codeword-lt (joined 16 ws) (block-lt ws (n, small)))
 
-no-tie : (ws exit : List ℕ) (r : Verdict) → Judged ws exit r → numberOf r ≢ 5
-no-tie ws exit r (inl (n, a, x)) e =
-    let v : codes.Verdict = verdict blockCode (joined 16 ws) in
-    never-5 v (verdicts .no-tie (joined 16 ws)) (sym (number-of v) ∙ ap numberOf (sym a) ∙ e)
-no-tie ws exit r (inr (n, a, x)) e = absurd (omega (arith, e, ap numberOf a))
+numbers : (ws exit : List ℕ) (r : Outcome) → length ws ≡ 38 → Judged ws exit r → (numberOf r ≡ 0) ⊎ (numberOf r ≡ 2)
+numbers ws exit r m (inl (n, a, x)) = go (zero-or-two v (verdicts .no-tie (joined 16 ws)))
+  where
+    v : codes.Verdict
+    v = verdict blockCode (joined 16 ws)
+
+    go : (refusal 2 v ≡ 0) ⊎ (refusal 2 v ≡ 2) → (numberOf r ≡ 0) ⊎ (numberOf r ≡ 2)
+    go (inl z) = inl (ap numberOf a ∙ number-of v ∙ z)
+    go (inr z) = inr (ap numberOf a ∙ number-of v ∙ z)
+numbers ws exit r m (inr (n, a, x)) = absurd (n m)
+
+no-tie : (ws exit : List ℕ) (r : Outcome) → Judged ws exit r → r ≢ Tie
+no-tie ws exit r (inl (n, a, x)) e = go (numbers ws exit r n (inl (n, a, x)))
+  where
+    go : (numberOf r ≡ 0) ⊎ (numberOf r ≡ 2) → ⊥
+    go (inl z) = omega (arith, z, ap numberOf e)
+    go (inr z) = omega (arith, z, ap numberOf e)
+no-tie ws exit r (inr (n, a, x)) e = absurd (omega (arith, ap numberOf a, ap numberOf e))
 
 -- where nothing is refused
-some-codeword : (ws exit : List ℕ) (r : Verdict) → Judged ws exit r → numberOf r ≡ 0 → (d : ℕ) × (d < 2 ^ 512) × (exit ≡ fields 16 38 (codeword d))
+some-codeword : (ws exit : List ℕ) (r : Outcome) → Judged ws exit r → numberOf r ≡ 0 → (d : ℕ) × (d < 2 ^ 512) × (exit ≡ fields 16 38 (codeword d))
 some-codeword ws exit r (inl (n, a, x)) z =
     let v : codes.Verdict = verdict blockCode (joined 16 ws) in
-    let (d, l, e) = codeword-now blockCode verdicts (joined 16 ws) (not-refused v (sym (number-of v) ∙ ap numberOf (sym a) ∙ z)) in
+    let (d, l, e) = codeword-now blockCode verdicts 1 (joined 16 ws) (sym (number-of v) ∙ ap numberOf (sym a) ∙ z) in
     (d, l, x ∙ ap (fields 16 38) e)
 some-codeword ws exit r (inr (n, a, x)) z = absurd (omega (arith, z, ap numberOf a))
 
@@ -189,46 +198,51 @@ is-codeword d exit l x =
     subst (λ (e : ℕ). Codeword e (joined 16 exit)) (sym (ap (λ ws. joined 16 (take 32 ws)) x ∙ ap (joined 16) (front d l) ∙ joined-fields 16 32 d l))
     (subst (Codeword d) (sym (ap (joined 16) x ∙ whole d l)) (meets d l))
 
-as-read : (ws exit : List ℕ) (r : Verdict) → Below 16 ws → Judged ws exit r → numberOf r ≢ 0 → exit ≡ ws
+as-read : (ws exit : List ℕ) (r : Outcome) → Below 16 ws → Judged ws exit r → numberOf r ≢ 0 → exit ≡ ws
 as-read ws exit r small (inl (n, a, x)) ne =
     let v : codes.Verdict = verdict blockCode (joined 16 ws) in
     x ∙ ap (fields 16 38) (as-it-was (joined 16 ws) v (λ z. ne (ap numberOf a ∙ number-of v ∙ z))) ∙ back ws (n, small)
 as-read ws exit r small (inr (n, a, x)) ne = x
 
-changed : (ws exit : List ℕ) (r : Verdict) → Below 16 ws → Judged ws exit r → flipsIn r ≡ dist (joined 16 ws) (joined 16 exit)
+changed : (ws exit : List ℕ) (r : Outcome) → Below 16 ws → Judged ws exit r → flipsIn r ≡ dist (joined 16 ws) (joined 16 exit)
 changed ws exit r small (inl (n, a, x)) =
     ap flipsIn a ∙ flips-in (verdict blockCode (joined 16 ws)) ∙ verdicts .changed (joined 16 ws)
     ∙ ap (dist (joined 16 ws)) (sym (scrubbed-number ws exit n small x))
 changed ws exit r small (inr (n, a, x)) = ap flipsIn a ∙ sym (ap (λ e. dist (joined 16 ws) (joined 16 e)) x ∙ dist-self (joined 16 ws))
 
 -- a codeword is clean
-clean-codeword : (d : ℕ) (ws exit : List ℕ) (r : Verdict) → d < 2 ^ 512 → ws ≡ fields 16 38 (codeword d) → Judged ws exit r → (r ≡ Clean) × (exit ≡ ws)
+clean-codeword : (d : ℕ) (ws exit : List ℕ) (r : Outcome) → d < 2 ^ 512 → ws ≡ fields 16 38 (codeword d) → Judged ws exit r → (r ≡ Clean) × (exit ≡ ws)
 clean-codeword d ws exit r l e j =
     let (a, x) =
     of-word ws exit r (codeword d) (clean d) (ap length e ∙ length-fields 16 38 (codeword d)) (ap (joined 16) e ∙ whole d l) (verdicts .unharmed d l) j in
     (a, x ∙ sym e)
 
-undone : (d p : ℕ) (exit : List ℕ) (r : Verdict) → d < 2 ^ 512 → p < 2 ^ 608 → ones p ≤ 2
+-- a verdict that hands data out
+answers : (ws exit : List ℕ) (r : Outcome) (w d n : ℕ) → length ws ≡ 38 → joined 16 ws ≡ w → verdict blockCode w ≡ answered d n
+    → Judged ws exit r → (numberOf r ≡ 0) × (flipsIn r ≡ n) × (exit ≡ fields 16 38 (codeword d))
+answers ws exit r w d n m e p j =
+    let (a, x) = of-word ws exit r w (answered d n) m e p j in (
+      ap numberOf a ∙ number d n,
+      ap flipsIn a ∙ flips d n,
+      x ∙ ap (fields 16 38) (answered-repaired blockCode w d n),
+    )
+  where
+    number : (d n : ℕ) → numberOf (answerOf (answered d n)) ≡ 0
+    number d zero = refl
+    number d (suc n) = refl
+
+    flips : (d n : ℕ) → flipsIn (answerOf (answered d n)) ≡ n
+    flips d zero = refl
+    flips d (suc n) = refl
+
+undone : (d p : ℕ) (exit : List ℕ) (r : Outcome) → d < 2 ^ 512 → p < 2 ^ 608 → ones p ≤ 2
     → Judged (fields 16 38 (bitXor (codeword d) p)) exit r → (numberOf r ≡ 0) × (flipsIn r ≡ ones p) × (exit ≡ fields 16 38 (codeword d))
 undone d p exit r l h few j =
     let w : ℕ = bitXor (codeword d) p in
-    let (a, x) =
-    of-word (fields 16 38 w) exit r w (answered d (ones p)) (length-fields 16 38 w) (joined-fields 16 38 w (xor-lt 608 (codeword d) p (codeword-lt d l) h))
-    (verdicts .undone d p l few) j in (
-      ap numberOf a ∙ answered-number d (ones p),
-      ap flipsIn a ∙ answered-flips d (ones p),
-      x ∙ ap (fields 16 38) (answered-repaired blockCode w d (ones p)),
-    )
-  where
-    answered-number : (d n : ℕ) → numberOf (answerOf (answered d n)) ≡ 0
-    answered-number d zero = refl
-    answered-number d (suc n) = refl
+    answers (fields 16 38 w) exit r w d (ones p) (length-fields 16 38 w)
+    (joined-fields 16 38 w (xor-lt 608 (codeword d) p (codeword-lt d l) h)) (verdicts .undone d p l few) j
 
-    answered-flips : (d n : ℕ) → flipsIn (answerOf (answered d n)) ≡ n
-    answered-flips d zero = refl
-    answered-flips d (suc n) = refl
-
-again : (ws once twice : List ℕ) (r s : Verdict) → Below 16 ws → Judged ws once r → Judged once twice s
+again : (ws once twice : List ℕ) (r s : Outcome) → Below 16 ws → Judged ws once r → Judged once twice s
     → (twice ≡ once) × (flipsIn s ≡ 0) × (numberOf s ≡ numberOf r)
 again ws once twice r s small (inl (n, a, x)) j =
     let w : ℕ = joined 16 ws in
@@ -245,27 +259,35 @@ again ws once twice r s small (inr (n, a, x)) (inr (m, b, y)) = (y, ap flipsIn b
 pub scrub-promised : ScrubPromises
 scrub-promised = record {
   refused = λ ws exit r ne h. refused ws exit r ne (judged ws exit r h);
+  numbers = λ ws exit r n h. numbers ws exit r n (judged ws exit r h);
   is-verdict = λ ws exit r v n h p.
-      of-word ws exit r (joined 16 ws) v n refl (sym (verdicts .settled (joined 16 ws) .one v p)) (judged ws exit r h) .0;
+      of-word ws exit r (joined 16 ws) v n refl (sym (verdicts .settled (joined 16 ws) .one v p)) (judged ws exit r h);
+  has-verdict = λ ws. (verdict blockCode (joined 16 ws), verdicts .settled (joined 16 ws) .has);
+  numbers-of = λ v. (number-of v, flips-in v);
+  within = λ ws exit r d n h l few.
+      answers ws exit r (joined 16 ws) d (dist (joined 16 ws) (codeword d)) n refl (found blockCode 5 distance (lit< tt) (joined 16 ws) d l few)
+      (judged ws exit r h);
+  beyond = λ ws exit r n h far.
+      of-word ws exit r (joined 16 ws) lost n refl (none-near blockCode (joined 16 ws) far) (judged ws exit r h) .0;
   no-tie = λ ws exit r h. no-tie ws exit r (judged ws exit r h);
   codeword-now = λ ws exit r h z. let (d, l, x) = some-codeword ws exit r (judged ws exit r h) z in is-codeword d exit l x;
   as-read = λ ws exit r small h. as-read ws exit r small (judged ws exit r h);
   changed = λ ws exit r small h. changed ws exit r small (judged ws exit r h);
-  encoded = λ values room ws exit a r small e z h.
-      let (n, d, x) = done values room ws a e z in
-      clean-codeword (joined 16 values) ws exit r (data-lt values n small) x (judged ws exit r h);
+  encoded = λ values before ws exit a r small e z h.
+      let (n, d, x) = done values before ws a e z in
+      clean-codeword (joined 16 values) ws exit r (joined-lt 16 32 values n small) x (judged ws exit r h);
   undone = λ d p exit r l h few s. undone d p exit r l h few (judged (fields 16 38 (bitXor (codeword d) p)) exit r s);
   again = λ ws once twice r s small h k. again ws once twice r s small (judged ws once r h) (judged once twice s k);
   again-clean = λ ws once twice r s h z k.
       let (d, l, x) = some-codeword ws once r (judged ws once r h) z in clean-codeword d once twice s l x (judged once twice s k) .0;
 }
   where
-    refused : (ws exit : List ℕ) (r : Verdict) → length ws ≢ 38 → Judged ws exit r → (numberOf r ≡ 3) × (exit ≡ ws)
+    refused : (ws exit : List ℕ) (r : Outcome) → length ws ≢ 38 → Judged ws exit r → (numberOf r ≡ 3) × (exit ≡ ws)
     refused ws exit r ne (inl (n, a, x)) = absurd (ne n)
     refused ws exit r ne (inr (n, a, x)) = (ap numberOf a, x)
 
 pub one-outcome : OneOutcome
 one-outcome = record {
-  encode = λ values room a b r s p q. (p .answer ∙ sym (q .answer), p .after ∙ sym (q .after));
+  encode = λ values before a b r s p q. (p .answer ∙ sym (q .answer), p .after ∙ sym (q .after));
   scrub = λ ws a b r s p q. (p .answer ∙ sym (q .answer), p .after ∙ sym (q .after));
 }

@@ -1,10 +1,10 @@
 -- Words that are stacked: linear, what one place gives, how high the stack is, and two words laid on at once. Assumes nothing.
 use mathlib.Core.Path.{_≡_, refl, sym, ap, ap₂, _∙_, subst}
 use mathlib.Core.List.{List, [], _∷_}
-use Prim.Native.Nat.{ℕ, zero, suc, _+_, _*_, _/_, _%_, _^_, _<_}
-use native.Mathlib.Nat.{zero-mul, mul-zero, mul-assoc, mod-eq-of-lt, div-eq-of-lt, le-of-suc-le-suc, not-suc-le-zero, lt-of-lt-of-le, mul-suc}
+use Prim.Native.Nat.{ℕ, zero, suc, suc-le-suc, _+_, _*_, _/_, _%_, _^_, _<_}
+use native.Mathlib.Nat.{zero-lt-suc, zero-mul, mul-zero, mul-assoc, mod-eq-of-lt, div-eq-of-lt, le-of-suc-le-suc, not-suc-le-zero, lt-of-lt-of-le, mul-suc}
 use native.Mathlib.Omega.{arith}
-use lib.Bits.{bitXor, xor-shr, xor-mod, xor-lt, xor-zero-r}
+use lib.Bits.{bitXor, bitAnd, xor-shr, xor-mod, xor-lt, xor-zero-r}
 use lib.Count.{ones}
 use lib.ListN.{length, getD}
 use lib.Pow.{pow-pos, pow-lt, pow-mono, pow-add, shl-lt, shl-shr}
@@ -19,7 +19,7 @@ use Rattle.block.specs.Code.{odd, stacked}
 pub odd-sum : (a b : ℕ) → odd (bitXor a b) ≡ bitXor (odd a) (odd b)
 odd-sum a b = parity (ones-xor a b) ∙ sym (bits (odd a) (odd b) (odd-lt (ones a)) (odd-lt (ones b)))
   where
-    parity : ones (bitXor a b) + ones (lib.Bits.bitAnd a b) * 2 ≡ ones a + ones b → odd (bitXor a b) ≡ (odd a + odd b) % 2
+    parity : ones (bitXor a b) + ones (bitAnd a b) * 2 ≡ ones a + ones b → odd (bitXor a b) ≡ (odd a + odd b) % 2
     parity e = omega arith
 
     bits : (x y : ℕ) → x < 2 → y < 2 → bitXor x y ≡ (x + y) % 2
@@ -102,8 +102,8 @@ stacked-lt m j f (x ∷ xs) h =
     let e : m * suc (length xs) + j ≡ m * length xs + j + m = ap (λ (y : ℕ). y + j) (mul-suc m (length xs)) ∙ omega arith in
     subst (λ (k : ℕ). bitXor (stacked m f xs * 2 ^ m) (f x) < 2 ^ k) (sym e)
     (xor-lt (m * length xs + j + m) (stacked m f xs * 2 ^ m) (f x)
-    (shl-lt (m * length xs + j) m (stacked-lt m j f xs (λ i l. h (suc i) (Prim.Native.Nat.suc-le-suc l))))
-    (lt-of-lt-of-le (h 0 (native.Mathlib.Nat.zero-lt-suc (length xs))) (pow-mono (omega arith))))
+    (shl-lt (m * length xs + j) m (stacked-lt m j f xs (λ i l. h (suc i) (suc-le-suc l))))
+    (lt-of-lt-of-le (h 0 (zero-lt-suc (length xs))) (pow-mono (omega arith))))
 
 -- ---- two words at once
 

@@ -61,7 +61,8 @@ module _ (words : List ℕ) (all : 32 ≤ length words) (small : Below 16 words)
     pub rows-turn : (r : ℕ) → r ≡ rowsOf (drop (n + 2) ws)
         → bitXor (r * 2 ^ 2 % 2 ^ 32) (bitXor (bitAnd (ones b) 1 * 2 ^ 1 % 2 ^ 32) (bitAnd (ones a) 1)) ≡ rowsOf (drop n ws)
     rows-turn r e =
-        let high : r < 2 ^ 30 = subst (λ (x : ℕ). x < 2 ^ 30) (sym e) (height 0 (n + 2) odd (omega arith) (λ i h. odd-lt (ones (getD (drop (n + 2) ws) i 0)))) in
+        let high : r < 2 ^ 30 = subst (λ (x : ℕ). x < 2 ^ 30) (sym e)
+        (height 0 (n + 2) odd (omega arith) (λ i h. odd-lt (ones (getD (drop (n + 2) ws) i 0)))) in
         ap₂ bitXor (shl-exact 30 2 32 high (omega arith) ∙ ap (λ (x : ℕ). x * 2 ^ 2) e)
         (ap₂ bitXor (ap (λ (x : ℕ). x * 2 ^ 1 % 2 ^ 32) (parity-is b) ∙ shl-exact 1 1 32 (odd-lt (ones b)) (omega arith)) (parity-is a))
         ∙ sym (ap rowsOf two-words ∙ stacked-two 1 odd a b (drop (n + 2) ws))

@@ -1,5 +1,5 @@
--- The syndrome of a 608-bit word: it is linear, each place gives its column, and it is none for codewords alone. Assumes nothing.
-use mathlib.Core.Path.{_≡_, refl, sym, ap, ap₂, _∙_, subst}
+-- The syndrome of a 608-bit word: it is linear, and no check is set in it for codewords alone. Assumes nothing.
+use mathlib.Core.Path.{_≡_, sym, ap, _∙_, subst}
 use Prim.Native.Nat.{ℕ, _+_, _-_, _*_, _/_, _%_, _^_, _<_}
 use native.Mathlib.Nat.{mod-eq-of-lt}
 use native.Mathlib.Omega.{arith}
@@ -14,7 +14,7 @@ use Rattle.words.proofs.Fields.{length-fields, fields-below, fields-low}
 use Rattle.words.proofs.Linear.{Linear, same, shr, low as lowest, _⊕_, then}
 use Rattle.words.proofs.Xor.{xor-shl}
 use Rattle.block.specs.Code.{odd, stacked, rowsOf, columnsOf, diagonalsOf, behind, codeword}
-use Rattle.block.specs.Steps.{none, mixed, saidBy, heldBy, syndromeOf}
+use Rattle.block.specs.Steps.{noChecks, mixed, saidBy, heldBy, syndromeOf}
 use Rattle.block.specs.declared.checks.Checks.{Checks}
 use Rattle.block.proofs.Mixing.{mixed-self, eq-of-mixed}
 use Rattle.block.proofs.Stack.{parity, stack, stacked-lt}
@@ -46,7 +46,7 @@ syndrome-sum a b =
     let d = (diagonalSums ⊕ lowest (shr same 560) 48) .sum a b in
     λ i. record { rows = r i; columns = c i; diagonals = d i }
 
-pub syndrome-zero : syndromeOf 0 ≡ none
+pub syndrome-zero : syndromeOf 0 ≡ noChecks
 syndrome-zero = syndrome-sum 0 0 ∙ mixed-self (syndromeOf 0)
 
 -- ---- bounds
@@ -100,7 +100,7 @@ module _ (d r c g : ℕ) (hd : d < 2 ^ 512) (hr : r < 2 ^ 32) (hc : c < 2 ^ 16) 
   behind-lt h = digits-lt (digits-lt (digits-lt h hc) hr) hd
 
 -- a word of 608 bits is what it holds, behind its data
-pub parts : (w : ℕ) → w < 2 ^ 608 → behind (w % 2 ^ 512) (heldBy w .rows) (heldBy w .columns) (heldBy w .diagonals) ≡ w
+parts : (w : ℕ) → w < 2 ^ 608 → behind (w % 2 ^ 512) (heldBy w .rows) (heldBy w .columns) (heldBy w .diagonals) ≡ w
 parts w h =
     ap (λ (x : ℕ). x * 2 ^ 512 + w % 2 ^ 512) (ap (λ (x : ℕ). x * 2 ^ 32 + w / 2 ^ 512 % 2 ^ 32) top ∙ split (w / 2 ^ 512) 32) ∙ split w 512
   where
@@ -116,12 +116,12 @@ unfolding codeword
 codeword-lt d h =
     behind-lt d (rowsOf (fields 16 32 d)) (columnsOf (fields 16 32 d)) (diagonalsOf (fields 16 32 d)) h (rows-lt d) (columns-lt d) (diagonals-lt d)
 
-pub codeword-data : (d : ℕ) → d < 2 ^ 512 → codeword d % 2 ^ 512 ≡ d
+codeword-data : (d : ℕ) → d < 2 ^ 512 → codeword d % 2 ^ 512 ≡ d
 unfolding codeword
 codeword-data d h =
     behind-data d (rowsOf (fields 16 32 d)) (columnsOf (fields 16 32 d)) (diagonalsOf (fields 16 32 d)) h (rows-lt d) (columns-lt d)
 
-pub held-codeword : (d : ℕ) → d < 2 ^ 512 → heldBy (codeword d) ≡ saidBy (fields 16 32 d)
+held-codeword : (d : ℕ) → d < 2 ^ 512 → heldBy (codeword d) ≡ saidBy (fields 16 32 d)
 unfolding codeword
 held-codeword d h =
     let r : ℕ = rowsOf (fields 16 32 d) in
@@ -132,16 +132,16 @@ held-codeword d h =
     let z = behind-diagonals d r c g h (rows-lt d) (columns-lt d) (diagonals-lt d) in
     λ i. record { rows = x i; columns = y i; diagonals = z i }
 
-pub syndrome-codeword : (d : ℕ) → d < 2 ^ 512 → syndromeOf (codeword d) ≡ none
+pub data-words : (d : ℕ) → d < 2 ^ 512 → fields 16 32 (codeword d) ≡ fields 16 32 d
+data-words d h = sym (fields-low 16 32 (codeword d)) ∙ ap (fields 16 32) (codeword-data d h)
+
+pub syndrome-codeword : (d : ℕ) → d < 2 ^ 512 → syndromeOf (codeword d) ≡ noChecks
 unfolding syndromeOf
 syndrome-codeword d h =
-    ap₂ (λ (n : ℕ) (k : Checks). mixed (saidBy (fields 16 32 n)) k) refl (held-codeword d h)
-    ∙ ap (λ ws. mixed (saidBy ws) (saidBy (fields 16 32 d))) same-words ∙ mixed-self (saidBy (fields 16 32 d))
-  where
-    same-words : fields 16 32 (codeword d) ≡ fields 16 32 d
-    same-words = sym (fields-low 16 32 (codeword d)) ∙ ap (fields 16 32) (codeword-data d h)
+    ap (mixed (saidBy (fields 16 32 (codeword d)))) (held-codeword d h)
+    ∙ ap (λ ws. mixed (saidBy ws) (saidBy (fields 16 32 d))) (data-words d h) ∙ mixed-self (saidBy (fields 16 32 d))
 
-pub codeword-of : (w : ℕ) → w < 2 ^ 608 → syndromeOf w ≡ none → w ≡ codeword (w % 2 ^ 512)
+pub codeword-of : (w : ℕ) → w < 2 ^ 608 → syndromeOf w ≡ noChecks → w ≡ codeword (w % 2 ^ 512)
 unfolding syndromeOf codeword
 codeword-of w h e =
     let s : saidBy (fields 16 32 w) ≡ heldBy w = eq-of-mixed (saidBy (fields 16 32 w)) (heldBy w) e in

@@ -2,13 +2,13 @@
 use Prim.Native.Nat.{ℕ}
 use Rattle.codes.specs.Verdict as codes
 use Rattle.codes.specs.Verdict.{clean, mended, lost, tie}
-use Rattle.block.specs.declared.Verdict.{Verdict}
-use Rattle.block.specs.declared.Verdict.the-variants.{Clean, Mended, Lost, Tie, Length}
+use Rattle.block.specs.declared.Outcome.{Outcome}
+use Rattle.block.specs.declared.Outcome.the-variants.{Clean, Mended, Lost, Tie, Length}
 use Rattle.block.specs.declared.Written.{Written}
 use Rattle.block.specs.declared.Written.the-variants.{Done, Length as OtherLength}
 
 -- the answer for document 01's verdict: the data is in the words
-abbrev pub answerOf : codes.Verdict → Verdict
+abbrev pub answerOf : codes.Verdict → Outcome
 answerOf (clean d) = Clean
 answerOf (mended d n) = Mended n
 answerOf lost = Lost
@@ -16,7 +16,7 @@ answerOf tie = Tie
 
 -- Document 01's number for each answer of a scrub: 2 for lost, 5 for tie, 3 for a length that is not allowed, and 0 where nothing is
 -- refused; ..
-abbrev pub numberOf : Verdict → ℕ
+abbrev pub numberOf : Outcome → ℕ
 numberOf Clean = 0
 numberOf (Mended n) = 0
 numberOf Lost = 2
@@ -24,7 +24,7 @@ numberOf Tie = 5
 numberOf Length = 3
 
 -- .. its flips; ..
-abbrev pub flipsIn : Verdict → ℕ
+abbrev pub flipsIn : Outcome → ℕ
 flipsIn Clean = 0
 flipsIn (Mended n) = n
 flipsIn Lost = 0

@@ -1,5 +1,6 @@
 -- What each call of the crate promises: one record a call, which determines the answer and every word afterwards. Assumes nothing.
 use mathlib.Core.Path.{_≡_}
+use mathlib.Core.Bool.{Bool, _&&_}
 use mathlib.Core.List.{List}
 use Prim.Native.Nat.{ℕ}
 use lib.Dec.{eqb}
@@ -10,24 +11,24 @@ use Rattle.codes.specs.Verdict.{verdict, scrubbed}
 use Rattle.block.specs.Equations.{Codeword}
 use Rattle.block.specs.Code.{codeword, blockCode}
 use Rattle.block.specs.Answer.{answerOf}
-use Rattle.block.specs.declared.Verdict.{Verdict}
-use Rattle.block.specs.declared.Verdict.the-variants.{Length}
+use Rattle.block.specs.declared.Outcome.{Outcome}
+use Rattle.block.specs.declared.Outcome.the-variants.{Length}
 use Rattle.block.specs.declared.Written.{Written}
 use Rattle.block.specs.declared.Written.the-variants.{Done, Length as OtherLength}
 
--- one outcome where there are 32 words of data and 38 of room, and another where there are not
-abbrev pub whereRoom : {A : Type 0} → List ℕ → List ℕ → A → A → A
-whereRoom values room a b = choose (eqb (length values) 32) (choose (eqb (length room) 38) a b) b
+-- exactly 32 words of data, and exactly 38 to write to
+abbrev pub allowed : List ℕ → List ℕ → Bool
+allowed values before = eqb (length values) 32 && eqb (length before) 38
 
 -- `Block::encode`: exactly 32 words in and exactly 38 out: the words of the block of the data, which meets the equations. Any other length is
 -- refused, and nothing is written.
 pub record Encoded (values before : List ℕ) (r : Written) (exit : List ℕ) : Type 0 where
-  pub answer : r ≡ whereRoom values before Done OtherLength
-  pub after : exit ≡ whereRoom values before (fields 16 38 (codeword (joined 16 values))) before
+  pub answer : r ≡ choose (allowed values before) Done OtherLength
+  pub after : exit ≡ choose (allowed values before) (fields 16 38 (codeword (joined 16 values))) before
   pub meets : r ≡ Done → Codeword (joined 16 values) (joined 16 exit)
 
 -- `Block::scrub`: document 01's verdict on exactly 38 words, which afterwards are the codeword, or as they were where there is none. Any
 -- other length is refused, and nothing is written.
-pub record Scrubbed (before : List ℕ) (r : Verdict) (exit : List ℕ) : Type 0 where
+pub record Scrubbed (before : List ℕ) (r : Outcome) (exit : List ℕ) : Type 0 where
   pub answer : r ≡ choose (eqb (length before) 38) (answerOf (verdict blockCode (joined 16 before))) Length
   pub after : exit ≡ choose (eqb (length before) 38) (fields 16 38 (scrubbed blockCode (joined 16 before))) before

@@ -9,7 +9,7 @@ use Rattle.words.specs.Word.{choose, bit, sumTo}
 abbrev pub inWord : ℕ → ℕ → ℕ → ℕ
 inWord w i c = bit w (16 * i + c)
 
--- Row r, column c is bit c of word r. The parity of all data places whose row and column pass the test:
+-- The parity of all data places (row r, column c is bit c of word r) whose row and column pass the test.
 abbrev pub parityWhere : (ℕ → ℕ → Bool) → ℕ → ℕ
 parityWhere test w = sumTo 32 (λ r. sumTo 16 (λ c. choose (test r c) (inWord w r c) 0)) % 2
 
@@ -18,9 +18,9 @@ pub record Codeword (d w : ℕ) : Type 0 where
   pub fits : w < 2 ^ 608
   -- Words 0 to 31 are data.
   pub data-places : (r c : ℕ) → r < 32 → c < 16 → inWord w r c ≡ inWord d r c
-  -- Words 32 and 33 hold row parities 0 to 15 and 16 to 31. In each of the words the lowest number is bit 0.
+  -- Words 32 and 33 hold row parities 0 to 15 and 16 to 31.
   pub rows : (n : ℕ) → n < 32 → inWord w (32 + n / 16) (n % 16) ≡ parityWhere (λ r c. eqb r n) w
-  -- Word 34 holds column parities 0 to 15.
+  -- Word 34 holds column parities 0 to 15. In each of the three the lowest number is bit 0.
   pub columns : (n : ℕ) → n < 16 → inWord w 34 n ≡ parityWhere (λ r c. eqb c n) w
   -- Diagonal t (0 to 46) is the parity of all data places with r + c = t; it is bit t mod 16 of word 35 + t/16.
   pub diagonals : (t : ℕ) → t < 47 → inWord w (35 + t / 16) (t % 16) ≡ parityWhere (λ r c. eqb (r + c) t) w

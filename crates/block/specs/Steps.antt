@@ -18,8 +18,8 @@ use Rattle.block.specs.declared.flips.Flips.the-variants.{One, Two, More
 
 -- ---- checks
 
-abbrev pub none : Checks
-none = record { rows = 0; columns = 0; diagonals = 0 }
+abbrev pub noChecks : Checks
+noChecks = record { rows = 0; columns = 0; diagonals = 0 }
 
 abbrev pub mixed : Checks → Checks → Checks
 mixed a b = record {
@@ -39,14 +39,14 @@ heldBy w = record { rows = w / 2 ^ 512 % 2 ^ 32; columns = w / 2 ^ 544 % 2 ^ 16;
 unfoldable pub syndromeOf : ℕ → Checks
 syndromeOf w = mixed (saidBy (fields 16 32 w)) (heldBy w)
 
--- .. by one flip, at place p
-abbrev pub columnOf : ℕ → Checks
-columnOf p = syndromeOf (2 ^ p)
+-- the checks that a flip at place p changes
+abbrev pub ofPlace : ℕ → Checks
+ofPlace p = syndromeOf (2 ^ p)
 
 -- whether none is set
 pub record IsNone (s : Checks) (r : Bool) : Type 0 where
-  pub yes : r ≡ true → s ≡ none
-  pub no : r ≡ false → s ≢ none
+  pub yes : r ≡ true → s ≡ noChecks
+  pub no : r ≡ false → s ≢ noChecks
 
 -- the six words that hold them
 abbrev pub checkWords : Checks → List ℕ
@@ -63,44 +63,44 @@ lowestOf s =
 
 -- whether the place p alone explains s
 pub record Explained (p : ℕ) (s : Checks) (r : Bool) : Type 0 where
-  pub yes : r ≡ true → (p < 608) × (columnOf p ≡ s)
-  pub no : r ≡ false → p < 608 → columnOf p ≢ s
+  pub yes : r ≡ true → (p < 608) × (ofPlace p ≡ s)
+  pub no : r ≡ false → p < 608 → ofPlace p ≢ s
 
 -- r is the place that alone explains s, if there is one, and no place if not
-pub record Alone (s : Checks) (r : ℕ) : Type 0 where
-  pub sound : r < 608 → columnOf r ≡ s
-  pub all : (p : ℕ) → p < 608 → columnOf p ≡ s → r < 608
+pub record OnlyPlace (s : Checks) (r : ℕ) : Type 0 where
+  pub sound : r < 608 → ofPlace r ≡ s
+  pub all : (p : ℕ) → p < 608 → ofPlace p ≡ s → r < 608
 
--- flips that explain s, or N, where there are more than two
+-- flips that explain s; where there are more, N holds
 abbrev pub Explains : Checks → Type 0 → Flips → Type 0
-Explains s N (One p) = (p < 608) × (columnOf p ≡ s)
-Explains s N (Two p q) = (p < 608) × (q < 608) × (mixed (columnOf p) (columnOf q) ≡ s)
+Explains s N (One p) = (p < 608) × (ofPlace p ≡ s)
+Explains s N (Two p q) = (p < 608) × (q < 608) × (mixed (ofPlace p) (ofPlace q) ≡ s)
 Explains s N More = N
 
--- p is none of at most two flips that explain s
+-- p is not the one flip, nor one of two, that explain s
 pub record Fails (s : Checks) (p : ℕ) : Type 0 where
-  pub alone : p < 608 → columnOf p ≢ s
-  pub paired : (q : ℕ) → p < 608 → q < 608 → mixed (columnOf p) (columnOf q) ≢ s
+  pub alone : p < 608 → ofPlace p ≢ s
+  pub paired : (q : ℕ) → p < 608 → q < 608 → mixed (ofPlace p) (ofPlace q) ≢ s
 
 abbrev pub Tried : Checks → ℕ → Flips → Type 0
 Tried s p f = Explains s (Fails s p) f
 
--- p stands among five
+-- p is one of the five guesses
 abbrev pub Among : List ℕ → ℕ → Type 0
 Among ps p = (k : ℕ) × (k < 5) × (getD ps k 0 ≡ p)
 
 -- wherever at most two flips explain s, one of them is among the guesses
 pub record Guessed (s : Checks) (ps : List ℕ) : Type 0 where
-  pub alone : (p : ℕ) → p < 608 → columnOf p ≡ s → Among ps p
-  pub paired : (p q : ℕ) → p < 608 → q < 608 → p ≢ q → mixed (columnOf p) (columnOf q) ≡ s → Among ps p ⊎ Among ps q
+  pub alone : (p : ℕ) → p < 608 → ofPlace p ≡ s → Among ps p
+  pub paired : (p q : ℕ) → p < 608 → q < 608 → p ≢ q → mixed (ofPlace p) (ofPlace q) ≡ s → Among ps p ⊎ Among ps q
 
 -- no one flip and no two explain s
 pub record Unexplained (s : Checks) : Type 0 where
-  pub alone : (p : ℕ) → p < 608 → columnOf p ≢ s
-  pub paired : (p q : ℕ) → p < 608 → q < 608 → p ≢ q → mixed (columnOf p) (columnOf q) ≢ s
+  pub alone : (p : ℕ) → p < 608 → ofPlace p ≢ s
+  pub paired : (p q : ℕ) → p < 608 → q < 608 → p ≢ q → mixed (ofPlace p) (ofPlace q) ≢ s
 
-abbrev pub Nearest : Checks → Flips → Type 0
-Nearest s f = Explains s (Unexplained s) f
+abbrev pub Found : Checks → Flips → Type 0
+Found s f = Explains s (Unexplained s) f
 
 abbrev pub isMore : Flips → Bool
 isMore (One p) = false

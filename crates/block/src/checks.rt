@@ -2,7 +2,7 @@
 ghost use mathlib.Core.Path.{_≡_};
 ghost use Prim.Native.Nat.{_≤_, _<_};
 ghost use lib.ListN.{length, take};
-ghost use Rattle.block.specs.Steps.{IsNone, mixed, saidBy, columnOf};
+ghost use Rattle.block.specs.Steps.{IsNone, mixed, saidBy, ofPlace};
 
 // Row parities, column parities, and the diagonals with the system parity as bit 47.
 pub struct Checks {
@@ -70,8 +70,8 @@ pub fn is_none(a: Checks) -> bool
 
 // The checks that a flip at `place` changes, for the 608 places of a block: those that a data place
 // stands in, or the check itself.
-pub fn column(place: usize) -> Checks
-    ensures { λ r. ⌜ (place < 608 → r ≡ columnOf place) ⌝ }
+pub fn of_place(place: usize) -> Checks
+    ensures { λ r. ⌜ (place < 608 → r ≡ ofPlace place) ⌝ }
 {
     if place < 512 {
         let row = place / 16;

@@ -3,13 +3,13 @@
 //
 // A flipped data place is in the syndrome by its row, its column and its diagonal, and two of the three
 // name it. A flipped check spoils one of them. Two data places in one row, or in one column, cancel out
-// there: the lower diagonal is the lower place's. Two in no line have the lower row with the lower column
-// or with the other one.
+// there: the lower diagonal is the lower place's. Two that share neither have the lower row with the lower
+// column or with the other one.
 ghost use mathlib.Core.Path.{_≡_};
 ghost use Prim.Native.Nat.{_+_, _-_, _*_, _^_, _≤_, _<_};
 ghost use lib.Bits.{bitXor};
 ghost use lib.Count.{trailingZeros};
-ghost use Rattle.block.specs.Steps.{lowestOf, Explained, Alone, Tried, Guessed, Nearest, isMore};
+ghost use Rattle.block.specs.Steps.{lowestOf, Explained, OnlyPlace, Tried, Guessed, Found, isMore};
 use super::checks;
 use super::checks::Checks;
 
@@ -19,8 +19,8 @@ pub enum Flips {
     More,
 }
 
-// The number of places, which stands for no place.
-const NOWHERE: usize = 608;
+// How many places there are. As a place it is none of them.
+const PLACES: usize = 608;
 
 // The data place at a row and a column, where there is one.
 fn place_at(row: u32, column: u32) -> usize
@@ -31,7 +31,7 @@ fn place_at(row: u32, column: u32) -> usize
             return (16 * row + column) as usize;
         }
     }
-    NOWHERE
+    PLACES
 }
 
 // The lowest check that is set, as a place.
@@ -70,15 +70,15 @@ fn second(x: u16) -> u32
 fn explains(place: usize, s: Checks) -> bool
     ensures { λ r. ⌜ Explained place s r ⌝ }
 {
-    if place < 608 {
-        return checks::is_none(checks::mix(s, checks::column(place)));
+    if place < PLACES {
+        return checks::is_none(checks::mix(s, checks::of_place(place)));
     }
     false
 }
 
 // The place that alone explains s, where there is one.
 fn alone(s: Checks) -> usize
-    ensures { λ p. ⌜ Alone s p ⌝ }
+    ensures { λ p. ⌜ OnlyPlace s p ⌝ }
 {
     let p = place_at(u32::trailing_zeros(s.rows), u16::trailing_zeros(s.columns));
     if explains(p, s) {
@@ -88,20 +88,20 @@ fn alone(s: Checks) -> usize
     if explains(q, s) {
         return q;
     }
-    NOWHERE
+    PLACES
 }
 
 // The place p tried as one of the flips.
 fn attempt(s: Checks, p: usize) -> Flips
     ensures { λ r. ⌜ Tried s p r ⌝ }
 {
-    if p < 608 {
-        let rest = checks::mix(s, checks::column(p));
+    if p < PLACES {
+        let rest = checks::mix(s, checks::of_place(p));
         if checks::is_none(rest) {
             return Flips::One(p);
         }
         let q = alone(rest);
-        if q < 608 {
+        if q < PLACES {
             return Flips::Two(p, q);
         }
     }
@@ -109,7 +109,7 @@ fn attempt(s: Checks, p: usize) -> Flips
 }
 
 // Five guesses: a place at the lowest row and the lowest column, at row and diagonal, at column and
-// diagonal, at the row and the second column; and a check.
+// diagonal, at the row and the second column; and the lowest check.
 fn guesses(s: Checks) -> [usize; 5]
     ensures { λ r. ⌜ Guessed s r ⌝ }
 {
@@ -137,7 +137,7 @@ fn is_more(f: Flips) -> bool
 
 // The flips that explain a syndrome in which some check is set, where there are not more than two.
 pub fn nearest(s: Checks) -> Flips
-    ensures { λ f. ⌜ Nearest s f ⌝ }
+    ensures { λ f. ⌜ Found s f ⌝ }
 {
     let places = guesses(s);
     let mut k: usize = 0;

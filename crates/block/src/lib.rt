@@ -6,11 +6,11 @@
 //     words 35 to 37   diagonal t, the parity of the places with r + c = t, is bit t mod 16 of word 35 + t / 16;
 //                      bit 15 of word 37 is the system parity, that of the 512 data bits
 //
-// A row of one word has its own parity beside it, so two blocks that differ in a row differ in two places
-// of it or more, the row's parity counted. In three rows that is six. In two rows it is four, and if the
-// columns agree the two rows are the same, and then the diagonals tell them apart: five. In one row each
-// place counts itself, its column and its diagonal. So two blocks differ in at least five places, and up
-// to two flips leave a block nearer to what was written than to any other.
+// A row is one word with its own parity, so where two blocks differ in a row they differ in two places
+// or more, its parity counted. Three rows make six. Two make four; if the columns agree, both rows differ
+// in the same places, and the diagonals tell them apart: five. In one row each place counts with its column
+// and its diagonal; a single one also with its row and the system parity: five. So two blocks differ in at
+// least five places, and up to two flips leave a block nearer to what was written than to any other.
 //
 // The scrubber guesses a flipped place, and verifies it by the checks that are left (checks, flips).
 //
@@ -22,25 +22,25 @@ ghost use Prim.Native.Nat.{_^_, _<_};
 ghost use lib.Bits.{bitXor};
 ghost use lib.ListN.{length};
 ghost use lib.Seq.{sets, paste};
-ghost use Rattle.words.specs.Fields.{joined, Below};
+ghost use Rattle.words.specs.Fields.{joined};
 ghost use Rattle.codes.specs.Promises.{States};
 ghost use Rattle.block.specs.Code.{blockCode};
 ghost use Rattle.block.specs.Calls.{Encoded, Scrubbed};
-ghost use Rattle.block.specs.Steps.{none, heldBy, checkWords, syndromeOf};
+ghost use Rattle.block.specs.Steps.{noChecks, heldBy, checkWords, syndromeOf};
 use checks::Checks;
 use flips::Flips;
 
 mod checks;
 mod flips;
 
-// The answer of the encoder.
+// The answer of the encoder: a block was written, or a slice has a length that is not allowed.
 pub enum Written {
     Done,
     Length,
 }
 
-// The answer of a scrub. The data is in the words.
-pub enum Verdict {
+// The answer of a scrub. The data is in the words. Length: there are not 38 of them.
+pub enum Outcome {
     Clean,
     Mended { flips: u32 },
     Lost,
@@ -48,6 +48,7 @@ pub enum Verdict {
     Length,
 }
 
+// A block is lent, as 38 words: the type has the constants and the calls.
 pub struct Block;
 
 // Words of data, and words in all.
@@ -58,10 +59,10 @@ const WORDS: usize = 38;
 // The 32 data words, to the front.
 fn copy(values: &[u16], words: &mut [u16])
     requires { ⌜ (length (now values) ≡ 32) × (length (now words) ≡ 38) ⌝ }
-    ensures { λ r. ⌜ (now (words .exit) ≡ paste (now (words .entry)) 0 (now (values .entry)) 32) × Below 16 (now (values .entry)) ⌝ }
+    ensures { λ r. ⌜ now (words .exit) ≡ paste (now (words .entry)) 0 (now (values .entry)) 32 ⌝ }
 {
     let mut i: usize = 0;
-    while i < 32 {
+    while i < VALUES {
         words[i] = values[i];
         i += 1;
     }
@@ -83,10 +84,10 @@ fn hold(words: &mut [u16], k: Checks)
     words[37] = (diagonals >> 32) as u16;
 }
 
-// The checks that the last six words are.
+// The checks that the last six words hold.
 fn held(words: &[u16]) -> Checks
     requires { ⌜ length (now words) ≡ 38 ⌝ }
-    ensures { λ r. ⌜ (r ≡ heldBy (joined 16 (now (words .entry)))) × Below 16 (now (words .entry)) ⌝ }
+    ensures { λ r. ⌜ r ≡ heldBy (joined 16 (now (words .entry))) ⌝ }
 {
     let rows = ((words[33] as u32) << 16) | (words[32] as u32);
     let upper = ((words[37] as u64) << 16) | (words[36] as u64);
@@ -115,21 +116,21 @@ fn flip(words: &mut [u16], place: usize)
 }
 
 // The flips that explain the syndrome s undone, where there are not more than two.
-fn mend(words: &mut [u16], s: Checks) -> Verdict
-    requires { ⌜ (length (now words) ≡ 38) × (s ≡ syndromeOf (joined 16 (now words))) × (s ≢ none) ⌝ }
+fn mend(words: &mut [u16], s: Checks) -> Outcome
+    requires { ⌜ (length (now words) ≡ 38) × (s ≡ syndromeOf (joined 16 (now words))) × (s ≢ noChecks) ⌝ }
     ensures { λ r. ⌜ Scrubbed (now (words .entry)) r (now (words .exit)) ⌝ }
 {
     match flips::nearest(s) {
         Flips::One(p) => {
             flip(words, p);
-            Verdict::Mended { flips: 1 }
+            Outcome::Mended { flips: 1 }
         }
         Flips::Two(p, q) => {
             flip(words, p);
             flip(words, q);
-            Verdict::Mended { flips: 2 }
+            Outcome::Mended { flips: 2 }
         }
-        Flips::More => Verdict::Lost,
+        Flips::More => Outcome::Lost,
     }
 }
 
@@ -140,7 +141,8 @@ impl Block {
 
     pub const DISTANCE: u32 = 5;
 
-    // The block of 32 data words, into 38 words. RADIUS, LENGTH and DISTANCE are the code's own.
+    // The block of 32 data words, into 38 words. Any other length is refused, and nothing is written.
+    // RADIUS, LENGTH and DISTANCE are the code's own.
     pub fn encode(values: &[u16], words: &mut [u16]) -> Written
         ensures { λ r. ⌜ Encoded (now (values .entry)) (now (words .entry)) r (now (words .exit)) ⌝ }
         ensures constants { λ r. do ⌜ States blockCode (← ⟦Block::RADIUS⟧ .entry) (← ⟦Block::LENGTH⟧ .entry) (← ⟦Block::DISTANCE⟧ .entry) ⌝ }
@@ -156,16 +158,17 @@ impl Block {
         Written::Done
     }
 
-    // The nearest codeword in place of the 38 words that were read, where it is within two places.
-    pub fn scrub(words: &mut [u16]) -> Verdict
+    // The nearest codeword in place of the 38 words that were read, where it is within two places. Where
+    // none is, or where the length is another, nothing is written.
+    pub fn scrub(words: &mut [u16]) -> Outcome
         ensures { λ r. ⌜ Scrubbed (now (words .entry)) r (now (words .exit)) ⌝ }
     {
         if words.len() != WORDS {
-            return Verdict::Length;
+            return Outcome::Length;
         }
         let s = syndrome(words);
         if checks::is_none(s) {
-            return Verdict::Clean;
+            return Outcome::Clean;
         }
         mend(words, s)
     }

@@ -12,7 +12,8 @@ use Rattle.words.proofs.Dist.{dist-sym}
 use Rattle.words.proofs.Fields.{dist-fields}
 use Rattle.words.proofs.Test.{both, both-left, both-right, every}
 use Rattle.words.proofs.Xor.{xor-cancel-l}
-use Rattle.codes.specs.Verdict.{Verdict, clean, mended, lost, tie, off, IsVerdict, answered, verdict}
+use Rattle.codes.specs.Verdict.{Code, Verdict, clean, mended, lost, tie, off, IsVerdict, answered, verdict}
+use Rattle.codes.specs.Promises.{Promises}
 use Rattle.codes.proofs.Promises.{found}
 use Rattle.grid.specs.Equations as grid
 use Rattle.grid.specs.Code.{codeword, gridCode}
@@ -23,7 +24,7 @@ use Rattle.grid.proofs.Promises.{promised}
 use Rattle.block.specs.Equations as blocks
 use Rattle.block.specs.Code.{odd, stacked, rowsOf, columnsOf, behind, blockCode, codeword as blockOf}
 use Rattle.block.proofs.Promises.{promised as block-promised}
-use Rattle.block.proofs.Columns.{system-columns}
+use Rattle.block.proofs.Places.{system-columns}
 use Rattle.cases.specs.Cases.{Case, ofGrid, read, ofBlock, cases, Says, Hold}
 
 -- ---- what is computed
@@ -58,8 +59,8 @@ right? (ofBlock d w) = both (ltb d (2 ^ 512)) (eqb (block d) w)
 -- ---- and what follows
 
 -- the verdict has the sense of document 01
-has : (w : ℕ) (v : Verdict) → verdict gridCode w ≡ v → IsVerdict gridCode w v
-has w v e = subst (IsVerdict gridCode w) e (promised .verdicts .settled w .has)
+has : (C : Code) → Promises C → (w : ℕ) (v : Verdict) → verdict C w ≡ v → IsVerdict C w v
+has C P w v e = subst (IsVerdict C w) e (P .settled w .has)
 
 counted : (w d : ℕ) → w < 2 ^ 64 → d < 2 ^ 16 → off gridCode w d ≡ apart w d
 unfolding apart
@@ -97,17 +98,17 @@ unfolding right?
 right (ofGrid d g) t =
     let h : d < 2 ^ 16 = ltb→lt d (2 ^ 16) (both-left (ltb d (2 ^ 16)) (eqb (codeword d) g) t) in
     let e : codeword d ≡ g = eqb→eq (codeword d) g (both-right (ltb d (2 ^ 16)) (eqb (codeword d) g) t) in
-    (subst (grid.Codeword d) e (is-codeword d h), has g (clean d) (ap (verdict gridCode) (sym e) ∙ promised .verdicts .unharmed d h))
-right (read w (clean d)) t = has w (clean d) (near w d 0 t)
+    (subst (grid.Codeword d) e (is-codeword d h), has gridCode (promised .verdicts) g (clean d) (ap (verdict gridCode) (sym e) ∙ promised .verdicts .unharmed d h))
+right (read w (clean d)) t = has gridCode (promised .verdicts) w (clean d) (near w d 0 t)
 right (read w (mended d zero)) t = absurd t
-right (read w (mended d (suc n))) t = has w (mended d (suc n)) (near w d (suc n) t)
-right (read w lost) t = has w lost (far w t)
+right (read w (mended d (suc n))) t = has gridCode (promised .verdicts) w (mended d (suc n)) (near w d (suc n) t)
+right (read w lost) t = has gridCode (promised .verdicts) w lost (far w t)
 right (read w tie) t = absurd t
 right (ofBlock d w) t =
     let h : d < 2 ^ 512 = ltb→lt d (2 ^ 512) (both-left (ltb d (2 ^ 512)) (eqb (block d) w) t) in
     let e : blockOf d ≡ w = same-block d h ∙ eqb→eq (block d) w (both-right (ltb d (2 ^ 512)) (eqb (block d) w) t) in (
       subst (blocks.Codeword d) e (block-promised .meets d h),
-      subst (IsVerdict blockCode w) (ap (verdict blockCode) (sym e) ∙ block-promised .verdicts .unharmed d h) (block-promised .verdicts .settled w .has),
+      has blockCode (block-promised .verdicts) w (clean d) (ap (verdict blockCode) (sym e) ∙ block-promised .verdicts .unharmed d h),
     )
 
 each : (cs : List Case) → T (every right? cs) → Hold cs

@@ -14,7 +14,7 @@ pub data Case : Type 0 where
   read : ℕ → Verdict → Case
   ofBlock : ℕ → ℕ → Case
 
--- word i of a block is x; a block is the sum of its words
+-- a block, or data, in which word i is x and the others are 0; they are added up
 abbrev pub word : ℕ → ℕ → ℕ
 word i x = x * 2 ^ (16 * i)
 

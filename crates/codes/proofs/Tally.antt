@@ -1,7 +1,7 @@
 -- What specs/Tally.antt says of the tally holds: word by word, and what is scrubbed is clean or as lost as it was. Assumes nothing.
 use mathlib.Core.Path.{_≡_, refl, sym, ap, ap₂, _∙_, subst}
 use mathlib.Core.List.{List, [], _∷_, _++_, map}
-use Prim.Native.Nat.{ℕ, _+_, _*_, _≤_, _<_}
+use Prim.Native.Nat.{ℕ, suc, _+_, _*_, _≤_, _<_}
 use native.Mathlib.Nat.{mul-suc, add-comm, add-assoc, add-zero, zero-add, add-le-add}
 use native.Mathlib.Numerals.{add-one}
 use native.Mathlib.Omega.{arith}
@@ -155,10 +155,10 @@ module _ (C : Code) where
     again-no-flips w = ap flipsOf (settled w .0) ∙ settled-flips (verdict C w)
 
     -- where nothing is refused the word is a codeword now
-    pub codeword-now : (w : ℕ) → refusal 1 (verdict C w) ≡ 0 → (d : ℕ) × (d < C .values) × (scrubbed C w ≡ C .encode d)
-    codeword-now w z = go (verdict C w) refl z
+    pub codeword-now : (k w : ℕ) → refusal (suc k) (verdict C w) ≡ 0 → (d : ℕ) × (d < C .values) × (scrubbed C w ≡ C .encode d)
+    codeword-now k w z = go (verdict C w) refl z
       where
-        go : (v : Verdict) → verdict C w ≡ v → refusal 1 v ≡ 0 → (d : ℕ) × (d < C .values) × (repaired C w v ≡ C .encode d)
+        go : (v : Verdict) → verdict C w ≡ v → refusal (suc k) v ≡ 0 → (d : ℕ) × (d < C .values) × (repaired C w v ≡ C .encode d)
         go (clean d) e z = (d, in-range w (clean d) e d 0 (refl, refl) .0, refl)
         go (mended d n) e z = (d, in-range w (mended d n) e d n (refl, refl) .0, refl)
         go lost e z = absurd (omega (arith, z))

@@ -34,7 +34,7 @@ data-is d g h p =
     ∙ sum-bits 16 d h
 
 whole : (rows : List ℕ) → length rows ≡ 8 → ((r : ℕ) → getD rows r 0 < 2 ^ 8) → fields 8 8 (joined 8 rows) ≡ rows
-whole rows n h = sym (ap (λ (m : ℕ). fields 8 m (joined 8 rows)) n) ∙ fields-joined 8 rows h
+whole rows n h = fields-joined 8 8 rows n h
 
 -- the grids of 0 and 1
 sixteen-apart : dist (codeword 0) (codeword 1) ≡ 16
@@ -90,7 +90,7 @@ module _ (rows : List ℕ) (r : Answer) (h : Decoded rows r) where
   changed : length rows ≡ 8 → ((i : ℕ) → getD rows i 0 < 2 ^ 8)
       → flipsOf (means (r .verdict)) ≡ dist (joined 8 rows) (joined 8 (r .grid .rows))
   changed n small =
-      let l : joined 8 rows < 2 ^ 64 = subst (λ (m : ℕ). joined 8 rows < 2 ^ (m * 8)) n (joined-lt 8 rows small) in
+      let l : joined 8 rows < 2 ^ 64 = joined-lt 8 8 rows n small in
       ap flipsOf (h .answer) ∙ promised .verdicts .changed (joined 8 rows)
       ∙ ap (dist (joined 8 rows))
       (sym (ap (joined 8) (h .repaired)

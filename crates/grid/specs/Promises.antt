@@ -8,7 +8,7 @@ use lib.Bits.{bitXor}
 use lib.Count.{ones}
 use lib.ListN.{length, getD}
 use Rattle.words.specs.Word.{bit, dist}
-use Rattle.words.specs.Fields.{fields, joined}
+use Rattle.words.specs.Fields.{fields, joined, Below}
 use Rattle.codes.specs.Verdict.{Verdict, clean, lost, tie, IsVerdict, answered, flipsOf}
 use Rattle.codes.specs.Promises.{States, Demand3, Promises, OneMoreIsLost}
 use Rattle.grid.specs.Equations.{inRow, dataOf, Codeword}
@@ -22,7 +22,7 @@ pub record GridPromises : Type 0 where
   pub places : (g r c : ℕ) → r < 8 → c < 8 → bit (getD (fields 8 8 g) r 0) c ≡ inRow g r c
   -- From the number to the rows and back nothing changes, nor from eight rows to the number and back.
   pub there-and-back : (g : ℕ) → g < 2 ^ 64 → joined 8 (fields 8 8 g) ≡ g
-  pub back-and-there : (rows : List ℕ) → length rows ≡ 8 → ((r : ℕ) → getD rows r 0 < 2 ^ 8) → fields 8 8 (joined 8 rows) ≡ rows
+  pub back-and-there : (rows : List ℕ) → length rows ≡ 8 → Below 8 rows → fields 8 8 (joined 8 rows) ≡ rows
   -- Demand 2: encoding equals the parity equations, for all 65,536 values.
   pub meets : (d : ℕ) → d < 2 ^ 16 → Codeword d (codeword d)
   -- They have one solution for each value, ..
@@ -49,10 +49,10 @@ pub record DecodePromises : Type 0 where
   pub numbers : (rows : List ℕ) (r : Answer) → Decoded rows r → (numberOf (r .verdict) ≡ 0) ⊎ (numberOf (r .verdict) ≡ 1)
   pub no-tie : (rows : List ℕ) (r : Answer) → Decoded rows r → means (r .verdict) ≢ tie
   -- The flips are the places in which the repaired grid differs from the grid as read, checks included.
-  pub changed : (rows : List ℕ) (r : Answer) → length rows ≡ 8 → ((i : ℕ) → getD rows i 0 < 2 ^ 8) → Decoded rows r
+  pub changed : (rows : List ℕ) (r : Answer) → length rows ≡ 8 → Below 8 rows → Decoded rows r
       → flipsOf (means (r .verdict)) ≡ dist (joined 8 rows) (joined 8 (r .grid .rows))
   -- On refusal the repaired grid is the grid as read.
-  pub as-read : (rows : List ℕ) (r : Answer) → length rows ≡ 8 → ((i : ℕ) → getD rows i 0 < 2 ^ 8) → Decoded rows r
+  pub as-read : (rows : List ℕ) (r : Answer) → length rows ≡ 8 → Below 8 rows → Decoded rows r
       → numberOf (r .verdict) ≢ 0 → r .grid .rows ≡ rows
   -- Decoding what was encoded gives the same data, verdict clean.
   pub encoded : (d : ℕ) (rows : List ℕ) (r : Answer) → d < 2 ^ 16 → Encoded d rows → Decoded rows r

@@ -1,7 +1,7 @@
 // The block's calls, with document 01's numbers for their answers.
 ghost use mathlib.Core.Path.{_≡_};
 use block::Block;
-use block::Verdict;
+use block::Outcome;
 use block::Written;
 
 // The block of 32 data words, into 38 words. Document 01's number is returned.
@@ -17,11 +17,11 @@ pub extern "C" fn block_encode(values: &[u16], words: &mut [u16]) -> u32 {
 #[no_mangle]
 pub extern "C" fn block_scrub(words: &mut [u16]) -> u32 {
     match Block::scrub(words) {
-        Verdict::Clean => 0,
-        Verdict::Mended { flips } => flips,
-        Verdict::Lost => 0x200,
-        Verdict::Tie => 0x500,
-        Verdict::Length => 0x300,
+        Outcome::Clean => 0,
+        Outcome::Mended { flips } => flips,
+        Outcome::Lost => 0x200,
+        Outcome::Tie => 0x500,
+        Outcome::Length => 0x300,
     }
 }
 

@@ -6,7 +6,7 @@ use Prim.Native.Nat.{ℕ, zero, suc, _+_, _*_, _/_, _%_, _^_, _≤_, _<_, suc-le
 use native.Mathlib.Nat.{mod-lt, zero-lt-suc, le-of-suc-le-suc, not-suc-le-zero, suc-mul, add-comm, add-assoc, add-zero, add-mul, mul-assoc, zero-mul, mod-eq-of-lt, div-eq-of-lt, div-one}
 use native.Mathlib.Omega.{arith}
 use lib.ListN.{length, getD, set, take, drop}
-use lib.Seq.{drop-cons}
+use lib.Seq.{drop-cons, take-all}
 use lib.Arith.{lt-one, digits-lt}
 use lib.Pow.{pow-pos, pow-add, shl-lt, shr-lt, shr-shr, split, high, low, field, mod-mod-pow}
 use lib.Bits.{bitXor, bitOr, or-shifted, xor-block, xor-lt, xor-zero-r}
@@ -34,24 +34,16 @@ joined-fields k (suc n) w h =
     (joined-fields k n (w / 2 ^ k) (shr-lt (n * k) k (subst (λ (m : ℕ). w < 2 ^ m) (suc-mul n k) h)))
     ∙ split w k
 
-pub fields-joined : (k : ℕ) (xs : List ℕ) → Below k xs → fields k (length xs) (joined k xs) ≡ xs
-fields-joined k [] h = refl
-fields-joined k (x ∷ xs) h =
-    ap₂ {C = List ℕ} (λ (a b : ℕ). a ∷ fields k (length xs) b) (low (joined k xs) k (h 0)) (high (joined k xs) k (h 0))
-    ∙ ap {B = List ℕ} (λ l. x ∷ l) (fields-joined k xs (λ i. h (suc i)))
-
-pub joined-lt : (k : ℕ) (xs : List ℕ) → Below k xs → joined k xs < 2 ^ (length xs * k)
-joined-lt k [] h = subst (λ (m : ℕ). 0 < 2 ^ m) (sym (zero-mul k)) (pow-pos 0)
-joined-lt k (x ∷ xs) h =
+joined-below : (k : ℕ) (xs : List ℕ) → Below k xs → joined k xs < 2 ^ (length xs * k)
+joined-below k [] h = subst (λ (m : ℕ). 0 < 2 ^ m) (sym (zero-mul k)) (pow-pos 0)
+joined-below k (x ∷ xs) h =
     subst (λ (m : ℕ). joined k xs * 2 ^ k + x < m) (sym (ap (λ (m : ℕ). 2 ^ m) (suc-mul (length xs) k) ∙ pow-add 2 (length xs * k) k))
-    (digits-lt (joined-lt k xs (λ i. h (suc i))) (h 0))
+    (digits-lt (joined-below k xs (λ i. h (suc i))) (h 0))
 
-pub drop-below : (k n : ℕ) (xs : List ℕ) → Below k xs → Below k (drop n xs)
-drop-below k zero xs h = h
-drop-below k (suc n) [] h = h
-drop-below k (suc n) (x ∷ xs) h = drop-below k n xs (λ i. h (suc i))
+pub joined-lt : (k n : ℕ) (xs : List ℕ) → length xs ≡ n → Below k xs → joined k xs < 2 ^ (n * k)
+joined-lt k n xs e h = subst (λ (m : ℕ). joined k xs < 2 ^ (m * k)) e (joined-below k xs h)
 
--- ---- words of a list that are lent, and changed one at a time
+-- ---- the first fields, those behind them, and a field flipped
 
 pub fields-take : (k n : ℕ) (xs : List ℕ) → n ≤ length xs → Below k xs → fields k n (joined k xs) ≡ take n xs
 fields-take k zero xs l h = refl
@@ -59,6 +51,9 @@ fields-take k (suc n) [] l h = absurd (not-suc-le-zero l)
 fields-take k (suc n) (x ∷ xs) l h =
     ap₂ {C = List ℕ} (λ (a b : ℕ). a ∷ fields k n b) (low (joined k xs) k (h 0)) (high (joined k xs) k (h 0))
     ∙ ap {B = List ℕ} (λ l. x ∷ l) (fields-take k n xs (le-of-suc-le-suc l) (λ i. h (suc i)))
+
+pub fields-joined : (k n : ℕ) (xs : List ℕ) → length xs ≡ n → Below k xs → fields k n (joined k xs) ≡ xs
+fields-joined k n xs e h = fields-take k n xs (omega (arith, e)) h ∙ take-all n xs (omega (arith, e))
 
 -- the first fields of a word
 pub take-fields : (k m n w : ℕ) → m ≤ n → take m (fields k n w) ≡ fields k m w

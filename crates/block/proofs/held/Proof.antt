@@ -35,7 +35,7 @@ returns c =
     let diagonals =
     ap (λ (x : ℕ). bitOr (x * 2 ^ 16 % 2 ^ 64) (getD ws 35 0)) upper
     ∙ side-by-side 48 16 {a = getD ws 37 0 * 2 ^ 16 + getD ws 36 0} (omega (arith, small 37, small 36)) (small 35) in
-    ((λ i. record { rows = rows i; columns = getD ws 34 0; diagonals = diagonals i }) ∙ sym (holds ws (omega arith) small), small)
+    (λ i. record { rows = rows i; columns = getD ws 34 0; diagonals = diagonals i }) ∙ sym (holds ws (omega arith) small)
 
 pub held-spec : {M : Type 1} → statement M
 held-spec =

@@ -29,7 +29,8 @@ returns c =
     let k = c .args .k in
     λ i.
     sets (c .args .words .now) 32
-    (and-mask (k .rows) 16 i ∷ k .rows / 2 ^ 16 ∷ k .columns ∷ and-mask (k .diagonals) 16 i ∷ and-mask (k .diagonals / 2 ^ 16) 16 i ∷ k .diagonals / 2 ^ 32 ∷ [])
+    (and-mask (k .rows) 16 i ∷ k .rows / 2 ^ 16 ∷ k .columns ∷ and-mask (k .diagonals) 16 i
+    ∷ and-mask (k .diagonals / 2 ^ 16) 16 i ∷ k .diagonals / 2 ^ 32 ∷ [])
 
 pub hold-spec : {M : Type 1} → statement M
 hold-spec =

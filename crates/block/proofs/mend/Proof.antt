@@ -3,7 +3,7 @@ use mathlib.Core.Path.{ap, _∙_, subst}
 use Prim.Native.Nat.{ℕ, _^_}
 use native.Mathlib.Omega.{arith}
 use lib.Bits.{bitXor}
-use Rattle.block.specs.Steps.{Nearest, Unexplained}
+use Rattle.block.specs.Steps.{Found, Unexplained}
 use Rattle.block.proofs.Outcomes.{mends-one, mends-two, is-lost}
 use borrow.Author.Needs.{needs}
 use Rattle.block.proofs.mend.Statement.{statement}
@@ -11,41 +11,49 @@ use Rattle.block.proofs.mend.Tie as tie
 
 flip-requires : tie.Need-flip-requires
 flip-requires c κs =
-    let s = c .before .before .before .before .before .before in
-    (s .pre .0, subst (Nearest (s .args .s)) (c .before .before .p .given .1) (c .before .before .before .before .nearest .ensures) .0)
+    let known = c .before .before .before .before .before in
+    let found = subst (Found (known .before .args .s)) (c .before .before .p .given .1) (c .before .before .before .before .nearest .ensures) in
+    (known .before .pre .0, found .0)
 
 flip-requires-2 : tie.Need-flip-requires-2
 flip-requires-2 c κs =
-    let s = c .before .before .before .before .before .before in
-    (s .pre .0, subst (Nearest (s .args .s)) (c .before .before .p2 .given .1) (c .before .before .before .before .nearest .ensures) .0)
+    let known = c .before .before .before .before .before in
+    let found = subst (Found (known .before .args .s)) (c .before .before .p2 .given .1) (c .before .before .before .before .nearest .ensures) in
+    (known .before .pre .0, found .0)
 
 flip-requires-3 : tie.Need-flip-requires-3
 flip-requires-3 c κs =
-    let s = c .before .before .before .before .before .before .before .before .before .before in
-    (omega arith, subst (Nearest (s .args .s)) (c .before .before .before .before .before .before .p2 .given .1) (c .before .before .before .before .before .before .before .before .nearest .ensures) .1)
+    let at = c .before .before .before .before .before .before in
+    let found = subst (Found (at .before .before .before .before .args .s)) (at .p2 .given .1) (at .before .before .nearest .ensures) in
+    (omega arith, found .1)
 
 returns : tie.Need-returns
 returns c =
-    let s = c .before .before .before .before .before .before .before .before .before in
-    let known = c .before .before .before .before .before .before .before .before .slice-known in
-    let found = subst (Nearest (s .args .s)) (c .before .before .before .before .before .p .given .1) (c .before .before .before .before .before .before .before .nearest .ensures) in
-    mends-one (s .args .words .now) (s .pre .0, λ i. omega (arith, known .given i)) _ (c .before .before .flip .last .0) (found .0)
+    let at = c .before .before .before .before .before in
+    let known = at .before .before .before in
+    let s = known .before in
+    let found = subst (Found (s .args .s)) (at .p .given .1) (at .before .before .nearest .ensures) in
+    mends-one (s .args .words .now) (s .pre .0, λ i. omega (arith, known .slice-known .given i)) _ (c .before .before .flip .last .0) (found .0)
     (found .1 ∙ s .pre .1) (omega arith, λ i. omega (arith, c .slice-known2 .given i)) (c .before .before .flip .ensures)
 
 returns-2 : tie.Need-returns-2
 returns-2 c =
-    let s = c .before .before .before .before .before .before .before .before .before .before .before .before .before in
-    let known = c .before .before .before .before .before .before .before .before .before .before .before .before .slice-known in
-    let found = subst (Nearest (s .args .s)) (c .before .before .before .before .before .before .before .before .before .p2 .given .1) (c .before .before .before .before .before .before .before .before .before .before .before .nearest .ensures) in
-    mends-two (s .args .words .now) (s .pre .0, λ i. omega (arith, known .given i)) _ _ (c .before .before .flip3 .last .0) (found .0) (found .1)
-    (found .2 ∙ s .pre .1) (λ e. s .pre .2 (s .pre .1 ∙ e)) (omega arith, λ i. omega (arith, c .slice-known4 .given i))
-    (c .before .before .flip3 .ensures ∙ ap (λ (x : ℕ). bitXor x (2 ^ c .before .before .before .before .before .before .before .before .before .p2 .given .0 .1 .0)) (c .before .before .before .before .before .before .flip2 .ensures))
+    let at = c .before .before .before .before .before .before .before .before .before in
+    let known = at .before .before .before in
+    let s = known .before in
+    let found = subst (Found (s .args .s)) (at .p2 .given .1) (at .before .before .nearest .ensures) in
+    let once = c .before .before .before .before .before .before .flip2 .ensures in
+    mends-two (s .args .words .now) (s .pre .0, λ i. omega (arith, known .slice-known .given i)) _ _ (c .before .before .flip3 .last .0) (found .0)
+    (found .1) (found .2 ∙ s .pre .1) (λ e. s .pre .2 (s .pre .1 ∙ e)) (omega arith, λ i. omega (arith, c .slice-known4 .given i))
+    (c .before .before .flip3 .ensures ∙ ap (λ (x : ℕ). bitXor x (2 ^ at .p2 .given .0 .1 .0)) once)
 
 returns-3 : tie.Need-returns-3
 returns-3 c =
-    let s = c .before .before .before .before in
-    is-lost (s .args .words .now) (s .pre .0, λ i. omega (arith, c .before .before .before .slice-known .given i)) (λ e. s .pre .2 (s .pre .1 ∙ e))
-    (subst Unexplained (s .pre .1) (subst (Nearest (s .args .s)) (c .enum-told .given .1) (c .before .before .nearest .ensures)))
+    let known = c .before .before .before in
+    let s = known .before in
+    let found = subst (Found (s .args .s)) (c .enum-told .given .1) (c .before .before .nearest .ensures) in
+    is-lost (s .args .words .now) (s .pre .0, λ i. omega (arith, known .slice-known .given i)) (λ e. s .pre .2 (s .pre .1 ∙ e))
+    (subst Unexplained (s .pre .1) found)
 
 pub mend-spec : {M : Type 1} → statement M
 mend-spec =

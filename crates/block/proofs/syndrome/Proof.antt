@@ -13,8 +13,8 @@ returns : tie.Need-returns
 returns c =
     let ws : List ℕ = c .before .before .before .before .args .words .now in
     let held = c .before .held in
-    c .mix .ensures ∙ ap₂ mixed (c .before .before .said .ensures (omega arith)) (held .ensures .0)
-    ∙ syndrome-is ws (omega arith, held .ensures .1)
+    c .mix .ensures ∙ ap₂ mixed (c .before .before .said .ensures (omega arith)) (held .ensures)
+    ∙ syndrome-is ws (omega arith, λ i. omega (arith, c .before .before .before .shared-slice-known .given i))
 
 pub syndrome-spec : {M : Type 1} → statement M
 syndrome-spec = tie.close (tie.spec (λ c κs. search needs) (λ c κs. search needs) (λ c κs. search needs) returns)

@@ -22,19 +22,24 @@ returns-2 c = (not-encoded (c .before .before .before .before .args .values .now
 
 hold-requires : tie.Need-hold-requires
 hold-requires c κs =
-    let values : List ℕ = c .before .before .before .before .before .before .before .before .before .before .args .values .now in
+    let lent = c .before .before .before .before .before .before .before .before .before in
+    let values : List ℕ = lent .before .args .values .now in
     let n : length values ≡ 32 = omega arith in
     let said : c .said .result ≡ saidBy values = c .said .ensures (omega arith) ∙ ap saidBy (take-all 32 values (omega arith)) in
-    (omega arith, subst (λ (k : Checks). k .diagonals < 2 ^ 48) (sym said) (small values n (c .before .before .before .before .copy .ensures .1) .2))
+    let fits = small values n (λ i. omega (arith, lent .shared-slice-known .given i)) .2 in
+    (omega arith, subst (λ (k : Checks). k .diagonals < 2 ^ 48) (sym said) fits)
 
 returns-3 : tie.Need-returns-3
 returns-3 c =
-    let values : List ℕ = c .before .before .before .before .before .before .before .before .before .before .before .before .before .args .values .now in
-    let words : List ℕ = c .before .before .before .before .before .before .before .before .before .before .before .before .before .args .words .now in
+    let lent = c .before .before .before .before .before .before .before .before .before .before .before .before in
+    let values : List ℕ = lent .before .args .values .now in
+    let words : List ℕ = lent .before .args .words .now in
     let copy = c .before .before .before .before .before .before .before .copy in
-    let said = c .before .before .before .said in (
-      encoded values (omega arith) (copy .ensures .1) words (omega arith) (said .result) (c .before .before .hold .last .0)
-          (said .ensures (omega arith)) (c .before .before .hold .ensures ∙ ap (λ (ws : List ℕ). sets ws 32 (checkWords (said .result))) (copy .ensures .0)),
+    let said = c .before .before .before .said in
+    let hold = c .before .before .hold in (
+      encoded values (omega arith) (λ i. omega (arith, lent .shared-slice-known .given i)) words (omega arith) (said .result) (hold .last .0)
+          (said .ensures (omega arith))
+          (hold .ensures ∙ ap (λ (ws : List ℕ). sets ws 32 (checkWords (said .result))) (copy .ensures)),
       constants,
     )
 

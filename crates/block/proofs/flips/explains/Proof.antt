@@ -11,7 +11,7 @@ returns : tie.Need-returns
 returns c =
     let s : Checks = c .before .before .before .before .args .s in
     let inside = c .before .before .before .if1 .taken in
-    let rest = c .before .mix .ensures ∙ ap (mixed s) (c .before .before .column .ensures inside) in
+    let rest = c .before .mix .ensures ∙ ap (mixed s) (c .before .before .of-place .ensures inside) in
     explained s _ (c .is-none .result) inside (subst (λ (k : Checks). IsNone k (c .is-none .result)) rest (c .is-none .ensures))
 
 returns-2 : tie.Need-returns-2

@@ -13,7 +13,7 @@ use Rattle.words.proofs.Dist.{ones-zero}
 use Rattle.words.proofs.Linear.{Linear, same, then, at-zero, by-places}
 use Rattle.words.proofs.Ones.{ones-pow}
 use Rattle.block.specs.Code.{odd, rowsOf, columnsOf}
-use Rattle.block.specs.Steps.{none, mixed, saidBy, heldBy, syndromeOf, columnOf}
+use Rattle.block.specs.Steps.{noChecks, mixed, saidBy, heldBy, syndromeOf, ofPlace}
 use Rattle.block.specs.declared.checks.Checks.{Checks}
 use Rattle.block.proofs.Mixing.{mixed-none}
 use Rattle.block.proofs.Syndromes.{rowSums, columnSums, diagonalSums}
@@ -21,7 +21,7 @@ use Rattle.block.proofs.Stack.{parity, stack-place, stack-behind}
 
 -- ---- what one place says
 
-held-none : (w : ℕ) → w < 2 ^ 512 → heldBy w ≡ none
+held-none : (w : ℕ) → w < 2 ^ 512 → heldBy w ≡ noChecks
 held-none w h =
     let r = ap (λ (x : ℕ). x % 2 ^ 32) (div-eq-of-lt h) in
     let c = ap (λ (x : ℕ). x % 2 ^ 16) (div-eq-of-lt (grown 544 (lit< tt))) in
@@ -31,7 +31,7 @@ held-none w h =
     grown : (k : ℕ) → 512 < k → w < 2 ^ k
     grown k l = lt-trans h (pow-lt l)
 
-said-none : (x : ℕ) → saidBy (fields 16 32 (x * 2 ^ 512)) ≡ none
+said-none : (x : ℕ) → saidBy (fields 16 32 (x * 2 ^ 512)) ≡ noChecks
 said-none x =
     let r = stack-behind 1 parity 32 x in
     let c = stack-behind 0 same 32 x in
@@ -58,9 +58,9 @@ module _ (r c : ℕ) (hr : r < 32) (hc : c < 16) where
       ∙ ap (λ (x : ℕ). 2 ^ x) (add-comm c r))
       (ap (λ (x : ℕ). odd x * 2 ^ 47) rows-at ∙ ap (λ (x : ℕ). x % 2 * 2 ^ 47) (ones-pow r))
 
-  pub column-data : columnOf (16 * r + c) ≡ record { rows = 2 ^ r; columns = 2 ^ c; diagonals = bitXor (2 ^ (r + c)) (2 ^ 47) }
+  pub place-data : ofPlace (16 * r + c) ≡ record { rows = 2 ^ r; columns = 2 ^ c; diagonals = bitXor (2 ^ (r + c)) (2 ^ 47) }
   unfolding syndromeOf
-  column-data =
+  place-data =
       let inside : 16 * r + c < 512 = omega arith in
       let said : saidBy (fields 16 32 (2 ^ (16 * r + c))) ≡ record { rows = 2 ^ r; columns = 2 ^ c; diagonals = bitXor (2 ^ (r + c)) (2 ^ 47) } =
       λ i. record { rows = rows-at i; columns = columns-at i; diagonals = diagonals-at i } in
@@ -88,7 +88,7 @@ system-columns =
         ∙ ap (λ (x : ℕ). odd (columnsOf (fields 16 32 (2 ^ x)))) (sym e)
 
 -- the column of check k, of 96: what a block holds that has nothing else
-check : (k : ℕ) → columnOf (512 + k) ≡ record { rows = 2 ^ k % 2 ^ 32; columns = 2 ^ k / 2 ^ 32 % 2 ^ 16; diagonals = 2 ^ k / 2 ^ 48 % 2 ^ 48 }
+check : (k : ℕ) → ofPlace (512 + k) ≡ record { rows = 2 ^ k % 2 ^ 32; columns = 2 ^ k / 2 ^ 32 % 2 ^ 16; diagonals = 2 ^ k / 2 ^ 48 % 2 ^ 48 }
 unfolding syndromeOf
 check k =
     ap (λ (x : ℕ). mixed (saidBy (fields 16 32 x)) (heldBy x)) place
@@ -126,27 +126,27 @@ above n j k =
     up : j + n + k ≡ k + n + j
     up = omega arith
 
-pub column-row : (r : ℕ) → r < 32 → columnOf (512 + r) ≡ record { rows = 2 ^ r; columns = 0; diagonals = 0 }
-column-row r h =
+pub place-row : (r : ℕ) → r < 32 → ofPlace (512 + r) ≡ record { rows = 2 ^ r; columns = 0; diagonals = 0 }
+place-row r h =
     let x = mod-eq-of-lt (pow-lt h) in
     let y = below 16 32 r h in
     let z = below 48 48 r (omega arith) in
     check r ∙ (λ i. record { rows = x i; columns = y i; diagonals = z i })
 
-pub column-column : (c : ℕ) → c < 16 → columnOf (544 + c) ≡ record { rows = 0; columns = 2 ^ c; diagonals = 0 }
-column-column c h =
+pub place-column : (c : ℕ) → c < 16 → ofPlace (544 + c) ≡ record { rows = 0; columns = 2 ^ c; diagonals = 0 }
+place-column c h =
     let x : 2 ^ (32 + c) % 2 ^ 32 ≡ 0 = ap (λ (y : ℕ). y % 2 ^ 32) (sym (div-one (2 ^ (32 + c)))) ∙ above 32 0 c in
     let y = within 16 32 c h in
     let z = below 48 48 (32 + c) (omega arith) in
-    ap columnOf (omega arith) ∙ check (32 + c) ∙ (λ i. record { rows = x i; columns = y i; diagonals = z i })
+    ap ofPlace (omega arith) ∙ check (32 + c) ∙ (λ i. record { rows = x i; columns = y i; diagonals = z i })
 
-pub column-diagonal : (t : ℕ) → t < 48 → columnOf (560 + t) ≡ record { rows = 0; columns = 0; diagonals = 2 ^ t }
-column-diagonal t h =
+pub place-diagonal : (t : ℕ) → t < 48 → ofPlace (560 + t) ≡ record { rows = 0; columns = 0; diagonals = 2 ^ t }
+place-diagonal t h =
     let x : 2 ^ (48 + t) % 2 ^ 32 ≡ 0 =
     ap (λ (y : ℕ). y % 2 ^ 32) (sym (div-one (2 ^ (48 + t)))) ∙ ap (λ (y : ℕ). 2 ^ y / 2 ^ 0 % 2 ^ 32) up ∙ above 32 0 (16 + t) in
     let y = above 16 32 t in
     let z = within 48 48 t h in
-    ap columnOf (omega arith) ∙ check (48 + t) ∙ (λ i. record { rows = x i; columns = y i; diagonals = z i })
+    ap ofPlace (omega arith) ∙ check (48 + t) ∙ (λ i. record { rows = x i; columns = y i; diagonals = z i })
   where
     up : 48 + t ≡ 0 + 32 + (16 + t)
     up = omega arith
@@ -185,10 +185,10 @@ Check p s = IsCheck 512 32 rowAt p s ⊎ (IsCheck 544 16 columnAt p s ⊎ IsChec
 abbrev pub Kind : ℕ → Checks → Type 0
 Kind p s = IsData p s ⊎ Check p s
 
-pub kind : (p : ℕ) → p < 608 → Kind p (columnOf p)
+pub kind : (p : ℕ) → p < 608 → Kind p (ofPlace p)
 kind p h = go (decLt p 512) (decLt p 544) (decLt p 560)
   where
-    go : Dec (p < 512) → Dec (p < 544) → Dec (p < 560) → Kind p (columnOf p)
+    go : Dec (p < 512) → Dec (p < 544) → Dec (p < 560) → Kind p (ofPlace p)
     go (yes a) b c =
         let e : 16 * (p / 16) + p % 16 ≡ p = omega arith in
         inl (record {
@@ -197,14 +197,14 @@ kind p h = go (decLt p 512) (decLt p 544) (decLt p 560)
           row-below = omega arith;
           column-below = omega arith;
           place = e;
-          is = sym (column-data (p / 16) (p % 16) (omega arith) (omega arith)) ∙ ap columnOf e;
+          is = sym (place-data (p / 16) (p % 16) (omega arith) (omega arith)) ∙ ap ofPlace e;
         })
     go (no a) (yes b) c =
         let e : 512 + (p - 512) ≡ p = omega arith in
-        inr (inl (record { k = p - 512; below = omega arith; place = e; is = sym (column-row (p - 512) (omega arith)) ∙ ap columnOf e }))
+        inr (inl (record { k = p - 512; below = omega arith; place = e; is = sym (place-row (p - 512) (omega arith)) ∙ ap ofPlace e }))
     go (no a) (no b) (yes c) =
         let e : 544 + (p - 544) ≡ p = omega arith in
-        inr (inr (inl (record { k = p - 544; below = omega arith; place = e; is = sym (column-column (p - 544) (omega arith)) ∙ ap columnOf e })))
+        inr (inr (inl (record { k = p - 544; below = omega arith; place = e; is = sym (place-column (p - 544) (omega arith)) ∙ ap ofPlace e })))
     go (no a) (no b) (no c) =
         let e : 560 + (p - 560) ≡ p = omega arith in
-        inr (inr (inr (record { k = p - 560; below = omega arith; place = e; is = sym (column-diagonal (p - 560) (omega arith)) ∙ ap columnOf e })))
+        inr (inr (inr (record { k = p - 560; below = omega arith; place = e; is = sym (place-diagonal (p - 560) (omega arith)) ∙ ap ofPlace e })))
