@@ -1,4 +1,4 @@
--- The column of each place, data or check: the syndrome of a block that has this place alone. Assumes nothing.
+-- The checks that a flip at each place changes, data or check: the syndrome of a block that has this place alone. Assumes nothing.
 use mathlib.Core.Path.{_≡_, sym, ap, ap₂, _∙_}
 use mathlib.Core.Logic.{_⊎_, inl, inr}
 use native.Mathlib.Decide.{decLt}
@@ -87,7 +87,7 @@ system-columns =
         ∙ sym (ap odd (columns-at (k / 16) (k % 16) (omega arith) (omega arith)))
         ∙ ap (λ (x : ℕ). odd (columnsOf (fields 16 32 (2 ^ x)))) (sym e)
 
--- the column of check k, of 96: what a block holds that has nothing else
+-- check k, of 96: what a block holds that has nothing else
 check : (k : ℕ) → ofPlace (512 + k) ≡ record { rows = 2 ^ k % 2 ^ 32; columns = 2 ^ k / 2 ^ 32 % 2 ^ 16; diagonals = 2 ^ k / 2 ^ 48 % 2 ^ 48 }
 unfolding syndromeOf
 check k =
@@ -151,7 +151,7 @@ place-diagonal t h =
     up : 48 + t ≡ 0 + 32 + (16 + t)
     up = omega arith
 
--- ---- the columns, by kind
+-- ---- by kind
 
 abbrev pub dataAt : ℕ → ℕ → Checks
 dataAt r c = record { rows = 2 ^ r; columns = 2 ^ c; diagonals = bitXor (2 ^ (r + c)) (2 ^ 47) }

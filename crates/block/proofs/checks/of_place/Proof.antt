@@ -1,4 +1,4 @@
--- `block::checks::of_place` meets its contract: the column of each kind of place. Assumes nothing.
+-- `block::checks::of_place` meets its contract, for each kind of place. Assumes nothing.
 use mathlib.Core.Path.{_≡_, sym, ap, _∙_}
 use Prim.Native.Nat.{ℕ, _+_, _-_, _*_, _/_, _%_, _^_, _<_}
 use native.Mathlib.Omega.{arith}
