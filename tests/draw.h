@@ -1,4 +1,5 @@
 /* What looks random, and is the same each time for the same seed. */
+#pragma once
 #include "report.h"
 
 int snprintf(char *, unsigned long, const char *, ...);

@@ -1,4 +1,4 @@
-/* What the archives of the crates `harness` and `harness_page` export. A slice is a pointer and then a length. */
+/* What the archives of the crates `harness`, `harness_page` and `harness_card` export. A slice is a pointer and then a length. */
 #include <stdint.h>
 
 uint64_t grid_encode(uint16_t value);
@@ -26,3 +26,19 @@ uint32_t block_encode(const uint16_t *values, uint64_t n, uint16_t *words, uint6
 /* A block scrubbed in place. It returns the flips, and from bit 8 on document 01's number (0 none, 2 lost, 3 another length than 38,
    5 tie). */
 uint32_t block_scrub(uint16_t *words, uint64_t n);
+
+/* The calls on an image return document 01's number (0 none, 3, 4, 6) from bit 32 on. Below it: for 4 the place of the break, for 3 and 6
+   zero, for 0 what is said here. */
+
+/* The grids, and from bit 16 on the blocks. */
+uint64_t image_check(const uint8_t *image, uint64_t n);
+
+/* Zero. The tallies have ten places: grids, clean, mended, lost and flips of the grids, then the same five of the blocks; with any other
+   length 255 is returned from bit 32 on and nothing is done. */
+uint64_t image_scrub(uint8_t *image, uint64_t n, uint32_t *tallies, uint64_t m);
+
+/* The bytes written. */
+uint64_t image_write(const uint8_t *title, uint64_t t, const uint16_t *numbers, uint64_t k, uint8_t *image, uint64_t n);
+
+/* The title's length, and from bit 16 on the grids. */
+uint64_t image_read(const uint8_t *image, uint64_t n, uint8_t *title, uint64_t t, uint16_t *data, uint64_t d, uint8_t *flips, uint64_t f);

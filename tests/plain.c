@@ -123,23 +123,34 @@ void plain_decode(const uint64_t *words, uint64_t n, uint64_t *verdicts, uint64_
         }
 }
 
+void plain_scrub_bytes(uint8_t *grids, uint64_t n, uint32_t tally[5])
+{
+    uint32_t clean = 0, lost = 0, flips = 0;
+    for (uint64_t k = 0; k < n; k++) {
+        uint64_t word;
+        __builtin_memcpy(&word, grids + 8 * k, sizeof word);
+        if (encode_again(word) == word) {
+            clean++;
+        } else {
+            uint64_t v = mend(word, &word);
+            __builtin_memcpy(grids + 8 * k, &word, sizeof word);
+            lost += v == LOST;
+            flips += v >> 16 & 255;
+        }
+    }
+    tally[0] += (uint32_t)n;
+    tally[1] += clean;
+    tally[2] += (uint32_t)n - clean - lost;
+    tally[3] += lost;
+    tally[4] += flips;
+}
+
 uint32_t plain_scrub(uint64_t *page, uint64_t n, uint32_t tally[5])
 {
     if (n > LONGEST_PAGE)
         return LENGTH_NOT_ALLOWED;
-    uint32_t clean = 0, lost = 0, flips = 0;
-    for (uint64_t k = 0; k < n; k++)
-        if (encode_again(page[k]) == page[k]) {
-            clean++;
-        } else {
-            uint64_t v = mend(page[k], &page[k]);
-            lost += v == LOST;
-            flips += v >> 16 & 255;
-        }
-    tally[0] = (uint32_t)n;
-    tally[1] = clean;
-    tally[2] = (uint32_t)n - clean - lost;
-    tally[3] = lost;
-    tally[4] = flips;
+    for (unsigned k = 0; k < 5; k++)
+        tally[k] = 0;
+    plain_scrub_bytes((uint8_t *)page, n, tally);
     return 0;
 }

@@ -1,20 +1,26 @@
 /* One operation many times, for counting its instructions: `speed SIDE OPERATION COUNT`, where SIDE is `library` or `plain`. COUNT is a
-   multiple of 1000. */
+   multiple of 1000, but for `image-clean` any number. */
 #include "draw.h"
 #include "library.h"
 #include "plain.h"
 
 int atoi(const char *);
 int strcmp(const char *, const char *);
+void *memcpy(void *, const void *, unsigned long);
 
 enum { WORDS = 1000, PAGE = 500, NUMBERS = 5, BLOCKS = 200, BLOCK_DATA = 32, BLOCK_WORDS = 38 };
 
-/* An answer is the flips, and from bit 8 on document 01's number, for a word and a block alike; for a grid of a page it is 1 if clean. */
+/* the longest image: a title of ten bytes, and 4,091 grids in eight fields, all of them full but for the last */
+enum { IMAGE = 32768, IMAGE_GRIDS = 4091, FIELD_GRIDS = 512, TALLIES = 10 };
+
+/* An answer is the flips, and from bit 8 on document 01's number, for a word and a block alike; for a grid of a page it is 1 if clean, and
+   for an image its clean grids. */
 enum { GRID_LOST = 1 << 8, BLOCK_LOST = 2 << 8 };
 
 /* what is decoded and scrubbed, and the answers */
 static uint64_t words[WORDS], verdicts[WORDS], repaired[WORDS];
-static uint32_t tally[NUMBERS];
+static uint8_t image[IMAGE];
+static uint32_t tally[TALLIES];
 static struct block {
     uint16_t words[BLOCK_WORDS];
 } blocks[BLOCKS], block;
@@ -94,6 +100,18 @@ static void plain_block_scrubbing(uint32_t n)
         }
 }
 
+static void library_image_scrubbing(uint32_t n)
+{
+    for (; n > 0; n--)
+        returned += (uint32_t)(image_scrub(image, IMAGE, tally, TALLIES) >> 32);
+}
+
+static void plain_image_scrubbing(uint32_t n)
+{
+    for (; n > 0; n--)
+        returned += (uint32_t)(plain_image_scrub(image, IMAGE, tally) >> 32);
+}
+
 typedef void operation(uint32_t);
 
 /* what is counted on both sides, and how many are made at a time */
@@ -107,9 +125,10 @@ static const struct kind decoding = {library_decoding, plain_decoding, WORDS};
 static const struct kind scrubbing = {library_scrubbing, plain_scrubbing, PAGE};
 static const struct kind block_encoding = {library_block_encoding, plain_block_encoding, BLOCKS};
 static const struct kind block_scrubbing = {library_block_scrubbing, plain_block_scrubbing, BLOCKS};
+static const struct kind image_scrubbing = {library_image_scrubbing, plain_image_scrubbing, 1};
 
 /* Each with what every answer has to be, and the places that are flipped in every grid. From `clean` to `lost` a word is decoded;
-   `page-clean` is for one grid of a page. The blocks are any words. */
+   `page-clean` is for one grid of a page, `image-clean` for a whole image. The blocks are any words. */
 static const struct {
     const char *name;
     const struct kind *kind;
@@ -124,6 +143,7 @@ static const struct {
     {"both-trials", &decoding, 6, 0x0000000000070007},
     {"lost", &decoding, GRID_LOST, 0x000000B1000000B1},
     {"page-clean", &scrubbing, 1, 0},
+    {"image-clean", &image_scrubbing, IMAGE_GRIDS, 0},
     {"block-encode", &block_encoding, 0, 0},
     {"block-random", &block_scrubbing, BLOCK_LOST, 0},
 };
@@ -153,12 +173,31 @@ static const struct {
     {"block-lost", BLOCK_LOST, {{5, 1 << 7}, {9, 1 << 11}, {14, 1 << 2}}},
 };
 
+static void prepare_image(void)
+{
+    uint8_t *to = image;
+    memcpy(to, "\x01\x00\x0A" "Mira Stern", 13);
+    to += 13;
+    for (uint32_t k = 0; k < IMAGE_GRIDS; k++, to += sizeof(uint64_t)) {
+        if (k % FIELD_GRIDS == 0) {
+            uint32_t left = IMAGE_GRIDS - k, length = 8 * (left < FIELD_GRIDS ? left : FIELD_GRIDS);
+            *to++ = 0x02;
+            *to++ = (uint8_t)(length >> 8);
+            *to++ = (uint8_t)length;
+        }
+        uint64_t grid = plain_grid(value(k));
+        memcpy(to, &grid, sizeof grid);
+    }
+    memcpy(to, "\x7F\x00\x00", 3);
+}
+
 /* the kind of the operation of that name, and what its answer has to be, when what it works on is there; 0 if there is none */
 static const struct kind *prepared(const char *name, uint32_t *answer)
 {
     for (uint32_t k = 0; k < BLOCKS; k++)
         for (unsigned w = 0; w < BLOCK_WORDS; w++)
             blocks[k].words[w] = (uint16_t)draw();
+    prepare_image();
     for (unsigned o = 0; o < sizeof operations / sizeof *operations; o++)
         if (strcmp(name, operations[o].name) == 0) {
             for (uint32_t w = 0; w < WORDS; w++)

@@ -13,24 +13,16 @@ pub fn data_places(value: u16) -> u32
     (pairs ^ (pairs << 4)) & 0x0F0F_0F0F
 }
 
-// Rows 0 to 3 from their data places, all four at a time: place 4 is the parity of places 0, 1, 2,
-// place 5 of 0, 2, 3, place 6 of 1, 2, 3, and place 7 of all before it.
+// Rows 0 to 3 from their data places, all four at a time: each data place, times the row that has it
+// alone of the four, with the places that it sets in 4 to 7.
 pub fn upper(places: u32) -> u32
     ensures { λ r. ⌜ ((d : ℕ) → d < 2 ^ 16 → places ≡ bitAnd (codeword d) 0x0F0F_0F0F → r ≡ codeword d % 2 ^ 32) ⌝ }
 {
-    let p1 = places >> 1;
-    let p2 = places >> 2;
-    let p3 = places >> 3;
-    let p4 = places ^ p1 ^ p2;
-    let p5 = places ^ p2 ^ p3;
-    let p6 = p1 ^ p2 ^ p3;
-    let p7 = places ^ p1 ^ p2 ^ p3 ^ p4 ^ p5 ^ p6;
     let lowest = 0x0101_0101;
-    places
-        ^ ((p4 & lowest) << 4)
-        ^ ((p5 & lowest) << 5)
-        ^ ((p6 & lowest) << 6)
-        ^ ((p7 & lowest) << 7)
+    ((places & lowest) * 0xB1)
+        ^ (((places >> 1) & lowest) * 0xD2)
+        ^ (((places >> 2) & lowest) * 0x74)
+        ^ (((places >> 3) & lowest) * 0xE8)
 }
 
 // Rows 4 to 7 from rows 0 to 3. Each of them is the parity of all four but one: row 4 leaves out

@@ -43,7 +43,7 @@ tally-in : Outcome → Tally → Tally
 tally-in (Done t) u = t
 tally-in Length u = u
 
-counted : (page exit : List ℕ) (t : Tally) → Scrubbed page (Done t) exit
+pub counted : (page exit : List ℕ) (t : Tally) → Scrubbed page (Done t) exit
     → (length page ≤ 512) × (t ≡ tallyOf page) × (exit ≡ map (scrubbed gridCode) page)
 unfolding tally-in
 counted page exit t s = go (decLe (length page) 512)
@@ -52,7 +52,7 @@ counted page exit t s = go (decLe (length page) 512)
     go (yes few) = (few, ap (λ r. tally-in r t) (done few s .0), done few s .1)
     go (no many) = absurd (omega (arith, ap numberOf (refused (omega arith) s .0)))
 
-laws : TallyPromises gridCode
+pub laws : TallyPromises gridCode
 laws = tallies gridCode (grid.promised .verdicts)
 
 -- ---- a clean grid stays as it is

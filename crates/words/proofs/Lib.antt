@@ -7,3 +7,4 @@ pub mod Lists
 pub mod Test
 pub mod Linear
 pub mod Ones
+pub mod Bytes

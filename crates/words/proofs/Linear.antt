@@ -5,14 +5,14 @@ use mathlib.Core.Path.{_≡_, refl, sym, ap, ap₂, _∙_, subst}
 use mathlib.Core.Logic.{_⊎_, inl, inr}
 use mathlib.Core.List.{List, [], _∷_}
 use Prim.Native.Nat.{ℕ, zero, suc, _+_, _*_, _/_, _%_, _^_, _<_, suc-le-suc, min}
-use native.Mathlib.Nat.{mod-lt, le-refl, zero-lt-suc, zero-mul, one-mul, zero-add}
+use native.Mathlib.Nat.{mod-lt, le-refl, zero-lt-suc, zero-mul, one-mul, zero-add, add-mul, mul-assoc, mul-comm}
 use native.Mathlib.Numerals.{one-add}
 use native.Mathlib.Omega.{arith}
 use lib.Dec.{T, eqb, ltb, ltb→lt}
 use lib.ListN.{length, getD}
 use lib.Arith.{lt-one}
 use lib.Pow.{pow-pos, shr-lt, split}
-use lib.Bits.{bitXor, bitAnd, differ, xor-self, xor-lt, xor-zero-r, xor-shr, xor-mod, xor-shifted}
+use lib.Bits.{bitXor, bitAnd, differ, xor-self, xor-lt, xor-zero-r, xor-shr, xor-mod, xor-shifted, xor-block, and-zero-r, and-mod, and-shr, and-le-r}
 use Rattle.words.specs.Word.{bit, picked, combined, sumTo}
 use Rattle.words.specs.Fields.{fields}
 use Rattle.words.proofs.Bit.{by-bit, bit-lt, bit-zero, bit-xor, bit-xor-sum}
@@ -100,6 +100,62 @@ field-sum k (suc n) (suc i) a b = ap (λ (x : ℕ). getD (fields k n x) i 0) (xo
 -- field i of n fields of k bits
 abbrev pub field : ℕ → ℕ → ℕ → Linear
 field k n i = record { at = λ x. getD (fields k n x) i 0; sum = field-sum k n i }
+
+-- ---- a product without a carry: a byte c, times a word that has at most the lowest bit of each byte
+
+abbrev pub lowest : ℕ → ℕ
+lowest zero = 0
+lowest (suc n) = lowest n * 256 + 1
+
+-- n bytes of 0 or 1
+Sparse : ℕ → ℕ → Type 0
+Sparse zero a = a ≡ 0
+Sparse (suc n) a = (a % 256 < 2) × Sparse n (a / 256)
+
+sparse : (n y : ℕ) → Sparse n (bitAnd y (lowest n))
+unfolding Sparse
+sparse zero y = and-zero-r y
+sparse (suc n) y =
+    let low : lowest (suc n) % 256 ≡ 1 = omega arith in
+    let high : lowest (suc n) / 256 ≡ lowest n = omega arith in (
+      omega (arith, and-mod y (lowest (suc n)) 8, ap (bitAnd (y % 256)) low, and-le-r (y % 256) 1),
+      subst (Sparse n) (sym (and-shr y (lowest (suc n)) 8 ∙ ap (bitAnd (y / 256)) high)) (sparse n (y / 256)),
+    )
+
+one-byte : (c x y : ℕ) → x < 2 → y < 2 → bitXor x y * c ≡ bitXor (x * c) (y * c)
+one-byte c x y p q =
+    by-bit (λ (x : ℕ). bitXor x y * c ≡ bitXor (x * c) (y * c)) (ap (λ (z : ℕ). bitXor z (y * c)) (sym (zero-mul c)))
+    (by-bit (λ (y : ℕ). bitXor 1 y * c ≡ bitXor (1 * c) (y * c)) (sym (ap (bitXor (1 * c)) (zero-mul c) ∙ xor-zero-r (1 * c)))
+    (zero-mul c ∙ sym (xor-self (1 * c))) y q) x p
+
+product : (n c a b : ℕ) → c < 256 → Sparse n a → Sparse n b → bitXor a b * c ≡ bitXor (a * c) (b * c)
+unfolding Sparse
+product zero c a b h p q =
+    ap₂ (λ (x y : ℕ). bitXor x y * c) p q ∙ zero-mul c ∙ sym (ap₂ (λ (x y : ℕ). bitXor (x * c) (y * c)) p q ∙ ap₂ bitXor (zero-mul c) (zero-mul c))
+product (suc n) c a b h p q =
+    sym (ap₂ (λ (x y : ℕ). bitXor x y * c) (split a 8) (split b 8))
+    ∙ ap (λ (x : ℕ). x * c) (xor-block 8 (a / 256) (b / 256) (a % 256) (b % 256) (mod-lt a (pow-pos 8)) (mod-lt b (pow-pos 8)))
+    ∙ spread (bitXor (a / 256) (b / 256)) (bitXor (a % 256) (b % 256))
+    ∙ ap₂ (λ (x y : ℕ). x * 256 + y) (product n c (a / 256) (b / 256) h (p .1) (q .1)) (one-byte c (a % 256) (b % 256) (p .0) (q .0))
+    ∙ sym (xor-block 8 (a / 256 * c) (b / 256 * c) (a % 256 * c) (b % 256 * c) (small (a % 256) (p .0)) (small (b % 256) (q .0)))
+    ∙ sym (ap₂ bitXor (spread (a / 256) (a % 256)) (spread (b / 256) (b % 256)))
+    ∙ ap₂ (λ (x y : ℕ). bitXor (x * c) (y * c)) (split a 8) (split b 8)
+  where
+    spread : (x y : ℕ) → (x * 256 + y) * c ≡ x * c * 256 + y * c
+    spread x y = add-mul (x * 256) y c ∙ ap (λ (z : ℕ). z + y * c) (mul-assoc x 256 c ∙ ap (λ (z : ℕ). x * z) (mul-comm 256 c) ∙ sym (mul-assoc x c 256))
+
+    small : (x : ℕ) → x < 2 → x * c < 2 ^ 8
+    small x l = by-bit (λ (x : ℕ). x * c < 256) (omega (arith, zero-mul c)) (omega (arith, h, one-mul c)) x l
+
+-- c for each lowest bit of n bytes of f
+module _ (f : Linear) (n c : ℕ) (h : T (ltb c 256)) where
+  pub times-sum : (a b : ℕ) → bitAnd (f .at (bitXor a b)) (lowest n) * c ≡ bitXor (bitAnd (f .at a) (lowest n) * c) (bitAnd (f .at b) (lowest n) * c)
+  times-sum a b =
+      ap (λ (x : ℕ). x * c) (mask-sum f (lowest n) a b)
+      ∙ product n c (bitAnd (f .at a) (lowest n)) (bitAnd (f .at b) (lowest n)) (ltb→lt c 256 h) (sparse n (f .at a)) (sparse n (f .at b))
+
+  abbrev pub times : Linear
+  times = record { at = λ x. bitAnd (f .at x) (lowest n) * c; sum = times-sum }
 
 -- ---- entries of set places
 

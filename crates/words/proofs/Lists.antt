@@ -1,11 +1,11 @@
 -- Lists that are mapped, wholly or in their first i elements, as a loop that goes through them leaves them on the way. Assumes nothing.
 use mathlib.Core.Path.{_≡_, refl, ap, ap₂, _∙_}
 use mathlib.Core.List.{List, [], _∷_, _++_, map, map-append, append-nil}
-use Prim.Native.Nat.{ℕ, zero, suc, _+_, _≤_, _<_}
+use Prim.Native.Nat.{ℕ, zero, suc, _+_, _-_, _≤_, _<_}
 use native.Mathlib.Nat.{not-suc-le-zero, le-of-suc-le-suc}
 use native.Mathlib.Numerals.{add-one}
 use native.Mathlib.Omega.{arith}
-use lib.ListN.{length, getD, set, take, drop, length-map, drop-of-length-le}
+use lib.ListN.{length, getD, set, take, drop, length-map, length-drop, drop-of-length-le}
 use lib.Seq.{take-suc, take-all, drop-cons, set-at, getD-at, append-snoc, length-take-le}
 
 unfoldable pub partly : (ℕ → ℕ) → ℕ → List ℕ → List ℕ
@@ -53,3 +53,10 @@ set-same (x ∷ xs) (suc i) = ap {B = List ℕ} (λ l. x ∷ l) (set-same xs i)
 pub map-twice : (f : ℕ → ℕ) → ((x : ℕ) → f (f x) ≡ f x) → (xs : List ℕ) → map f (map f xs) ≡ map f xs
 map-twice f h [] = refl
 map-twice f h (x ∷ xs) = ap₂ {C = List ℕ} (λ (y : ℕ) (ys : List ℕ). y ∷ ys) (h x) (map-twice f h xs)
+
+-- the part of a list from k on, as a loan of it has it
+pub part-behind : (k : ℕ) (xs : List ℕ) → take (length xs - k) (drop k xs) ≡ drop k xs
+part-behind k xs = take-all (length xs - k) (drop k xs) (omega (arith, length-drop k xs))
+
+pub length-part : (k : ℕ) (xs : List ℕ) → length (take (length xs - k) (drop k xs)) ≡ length xs - k
+length-part k xs = ap length (part-behind k xs) ∙ length-drop k xs

@@ -1,0 +1,53 @@
+-- `card::values::put_grids` meets its contract: grid after grid. Assumes nothing.
+use mathlib.Core.Path.{_≡_, refl, sym, ap, _∙_}
+use Prim.Native.Nat.{_-_, _*_, _≤_, _<_}
+use native.Mathlib.Omega.{arith}
+use lib.ListN.{length, take, drop}
+use lib.Seq.{take-all}
+use denote.Ref.{now}
+use Rattle.words.specs.Bytes.{bytesOf, laid}
+use Rattle.words.proofs.Lists.{length-part}
+use Rattle.words.proofs.Bytes.{length-bytes, laid-all}
+use Rattle.card.proofs.Turns.{no-words, word-turn, length-turn}
+use borrow.Author.Needs.{needs}
+use Rattle.card.proofs.values.put_grids.Statement.{statement}
+use Rattle.card.proofs.values.put_grids.Tie as tie
+
+abbrev Inv-loop : tie.InvT-loop
+Inv-loop bytes₀ page i₀ bytes i = (i ≤ length page) × (bytes ≡ laid (bytesOf 8 (take i page)) bytes₀) × (length bytes ≡ length bytes₀)
+
+abbrev μ-loop : tie.MeasureT-loop
+μ-loop bytes₀ page i₀ bytes i = length page - i
+
+put-grid-requires : tie.Need-put-grid-requires Inv-loop μ-loop
+put-grid-requires c κs =
+    let l = c .before .before .before .before .loop in
+    omega (arith, length-part (8 * l .i) (l .bytes), c .before .before .before .before .before .before .before .pre)
+
+loop-again : tie.Need-loop-again Inv-loop μ-loop
+loop-again c =
+    let l = c .before .before .before .before .before .before .before .loop in
+    let s = c .before .before .before .before .before .before .before .before .before .before in
+    let more : l .i < length (now (s .args .page)) = omega arith in
+    let room : 8 * length (now (s .args .page)) ≤ length (now (s .args .bytes)) = omega (arith, s .pre) in
+    let put = c .before .before .put-grid in
+    let turn = word-turn 8 (now (s .args .page)) (now (s .args .bytes)) (l .bytes) (l .i) (put .last .0) more room (l .inv .1) (put .ensures ∙ ap (λ b. laid b (take (length (l .bytes) - 8 * l .i) (drop (8 * l .i) (l .bytes)))) (c .before .before .before .of-number .ensures .answer)) in
+    (omega arith, turn, ap length turn ∙ length-turn 8 (now (s .args .page)) (now (s .args .bytes)) (l .bytes) (l .i) (put .last .0) more room)
+
+same-length : tie.Need-same-length Inv-loop μ-loop
+same-length c = c .before .loop .inv .2
+
+returns : tie.Need-returns Inv-loop μ-loop
+returns c =
+    let l = c .before .loop in
+    let s = c .before .before .before .before in
+    let ws = now (s .args .page) in
+    let all : take (l .i) ws ≡ ws = take-all (l .i) ws (omega arith) in
+    l .inv .1 ∙ ap (λ b. laid (bytesOf 8 b) (now (s .args .bytes))) all
+    ∙ laid-all (bytesOf 8 ws) (now (s .args .bytes)) (length-bytes 8 ws ∙ sym (s .pre))
+
+pub put-grids-spec : {M : Type 1} → statement M
+put-grids-spec =
+    tie.close
+    (tie.spec Inv-loop μ-loop (λ c. (omega arith, no-words 8 (now (c .before .before .args .page)) _, refl)) (λ c. omega arith) (λ c. omega arith) (λ c. omega arith)
+    (λ c. search needs) (λ c. omega arith) (λ c. omega arith) (λ c κs. search needs) put-grid-requires (λ c. omega arith) (λ c. omega arith) loop-again same-length returns)

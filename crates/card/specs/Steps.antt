@@ -1,0 +1,104 @@
+-- What the private steps of the card's calls compute, so that their contracts can say it. No promise to a caller cites this file. Assumes
+-- nothing.
+use mathlib.Core.Path.{_≡_}
+use mathlib.Core.List.{List, [], _∷_, _++_, map}
+use Prim.Native.Nat.{ℕ, _+_, _/_, _^_, _≤_, _<_}
+use lib.ListN.{length}
+use Rattle.words.specs.Fields.{fields, joined}
+use Rattle.words.specs.Bytes.{wordsIn, bytesOf, laid}
+use Rattle.codes.specs.Verdict.{verdict, scrubbed}
+use Rattle.grid.specs.Code.{gridCode}
+use Rattle.block.specs.Code.{blockCode}
+use Rattle.page.specs.declared.Tally.{Tally}
+use Rattle.page.specs.Calls.{tallyOf}
+use Rattle.image.specs.Card.{Part, Found, sound, gridsIn, walk, head, partsBytes}
+use Rattle.card.specs.declared.Blocks.{Blocks}
+use Rattle.card.specs.declared.Tallies.{Tallies}
+use Rattle.card.specs.Answer.{dataOf, flipsShown}
+use Rattle.card.specs.Calls.{scrubbedPart, blockTally, talliesOf, sizeWritten}
+
+-- ---- tallies
+
+abbrev pub noGrids : Tally
+noGrids = record { grids = 0; clean = 0; mended = 0; lost = 0; flips = 0 }
+
+abbrev pub noBlocks : Blocks
+noBlocks = record { blocks = 0; clean = 0; mended = 0; lost = 0; flips = 0 }
+
+abbrev pub bothGrids : Tally → Tally → Tally
+bothGrids a b = record {
+  grids = a .grids + b .grids;
+  clean = a .clean + b .clean;
+  mended = a .mended + b .mended;
+  lost = a .lost + b .lost;
+  flips = a .flips + b .flips;
+}
+
+abbrev pub withBlocks : Blocks → Tallies → Tallies
+withBlocks a t = record {
+  grids = t .grids;
+  blocks = record {
+    blocks = a .blocks + t .blocks .blocks;
+    clean = a .clean + t .blocks .clean;
+    mended = a .mended + t .blocks .mended;
+    lost = a .lost + t .blocks .lost;
+    flips = a .flips + t .blocks .flips;
+  };
+}
+
+-- there is room for each sum
+pub record RoomyGrids (a b : Tally) : Type 0 where
+  pub grids : a .grids + b .grids < 2 ^ 32
+  pub clean : a .clean + b .clean < 2 ^ 32
+  pub mended : a .mended + b .mended < 2 ^ 32
+  pub lost : a .lost + b .lost < 2 ^ 32
+  pub flips : a .flips + b .flips < 2 ^ 32
+
+pub record RoomyBlocks (a b : Blocks) : Type 0 where
+  pub blocks : a .blocks + b .blocks < 2 ^ 32
+  pub clean : a .clean + b .clean < 2 ^ 32
+  pub mended : a .mended + b .mended < 2 ^ 32
+  pub lost : a .lost + b .lost < 2 ^ 32
+  pub flips : a .flips + b .flips < 2 ^ 32
+
+-- ---- the fields behind a title
+
+-- they are found sound
+pub record Walks (rest : List ℕ) : Type 0 where
+  pub few : length rest ≤ 32768
+  pub left : ℕ
+  pub at : ℕ
+  pub parts : List Part
+  pub found : walk left at rest ≡ sound parts
+
+pub record ScrubbedGrids (value : List ℕ) (r : Tally) (exit : List ℕ) : Type 0 where
+  pub answer : r ≡ tallyOf (wordsIn 8 (length value / 8) value)
+  pub after : exit ≡ bytesOf 8 (map (scrubbed gridCode) (wordsIn 8 (length value / 8) value))
+
+pub record ScrubbedBlock (value : List ℕ) (r : Blocks) (exit : List ℕ) : Type 0 where
+  pub answer : r ≡ blockTally (joined 16 (wordsIn 2 38 value) ∷ [])
+  pub after : exit ≡ bytesOf 2 (fields 16 38 (scrubbed blockCode (joined 16 (wordsIn 2 38 value))))
+
+pub record ScrubbedFields (rest : List ℕ) (r : Tallies) (exit : List ℕ) : Type 0 where
+  pub answer : (left at : ℕ) (ps : List Part) → walk left at rest ≡ sound ps → r ≡ talliesOf ps
+  pub after : (left at : ℕ) (ps : List Part) → walk left at rest ≡ sound ps → exit ≡ partsBytes (map scrubbedPart ps) ++ head 127 0
+
+-- ---- reading back, and writing
+
+-- sound, with room for each grid
+pub record ReadsFields (rest numbers flips : List ℕ) : Type 0 where
+  pub walks : Walks rest
+  pub numbers-room : length (gridsIn (walks .parts)) ≤ length numbers
+  pub flips-room : length (gridsIn (walks .parts)) ≤ length flips
+
+pub record ReadsGrids (rest numbers flips numbers′ flips′ : List ℕ) : Type 0 where
+  pub numbers-after : (left at : ℕ) (ps : List Part) → walk left at rest ≡ sound ps
+      → numbers′ ≡ laid (map (λ w. dataOf (verdict gridCode w)) (gridsIn ps)) numbers
+  pub flips-after : (left at : ℕ) (ps : List Part) → walk left at rest ≡ sound ps
+      → flips′ ≡ laid (map (λ w. flipsShown (verdict gridCode w)) (gridsIn ps)) flips
+
+-- lengths that are allowed, and room
+pub record Fits (title numbers image : List ℕ) : Type 0 where
+  pub title-few : length title ≤ 24
+  pub numbers-few : length numbers ≤ 512
+  pub room : sizeWritten title numbers ≤ length image

@@ -1,0 +1,5 @@
+pub mod Titles
+pub mod Fields
+pub mod Walking
+pub mod Shape
+pub mod Promises

@@ -1,0 +1,13 @@
+-- `image::is_grids` meets its contract. Assumes nothing.
+use borrow.Author.Tests.{le-leb, lt-leb}
+use Rattle.image.proofs.is_grids.Statement.{statement}
+use Rattle.image.proofs.is_grids.Tie as tie
+
+returns : tie.Need-returns
+returns c = simp (lt-leb _ _ (c .if1 .taken))
+
+returns-2 : tie.Need-returns-2
+returns-2 c = simp (le-leb _ _ (c .if1 .left))
+
+pub is-grids-spec : {M : Type 1} → statement M
+is-grids-spec = tie.close (tie.spec returns returns-2)

@@ -1,0 +1,5 @@
+pub mod Fields
+pub mod Card
+pub mod Calls
+pub mod Promises
+pub mod Steps

@@ -1,0 +1,71 @@
+-- What is proved of a card image (`promised`, `one-outcome`). Assumes nothing.
+use mathlib.Core.Path.{_≡_}
+use mathlib.Core.Logic.{_≢_, _⊎_}
+use mathlib.Core.Bool.{Bool, true, false}
+use mathlib.Core.List.{List, [], _∷_, _++_}
+use Prim.Native.Nat.{ℕ, _+_, _^_, _≤_, _<_}
+use lib.ListN.{length}
+use Rattle.words.specs.Fields.{Below}
+use Rattle.image.specs.declared.Field.{Field}
+use Rattle.image.specs.declared.Field.the-variants.{Title, Grids, Block, End, Fails}
+use Rattle.image.specs.declared.Outcome.{Outcome}
+use Rattle.image.specs.declared.Outcome.the-variants.{Sound, Length, Broken}
+use Rattle.image.specs.Fields.{isTitle, fieldOf}
+use Rattle.image.specs.Card.{Part, grids, block, Card, Found, sound, broken, cardOf, frontOf, imageOf}
+use Rattle.image.specs.Calls.{Checked, Classified, Searched, Named, counts, numberOf, placeOf}
+
+-- A card that can stand in an image: a title of 1 to 24 bytes, each 20 to 7E hex; at most 16 data fields, each of at most 512 grids or of
+-- one block.
+abbrev pub ProperPart : Part → Type 0
+ProperPart (grids ws) = (length ws ≤ 512) × Below 64 ws
+ProperPart (block w) = w < 2 ^ 608
+
+abbrev pub AllProper : List Part → Type 0
+AllProper [] = Unit {0}
+AllProper (p ∷ ps) = ProperPart p × AllProper ps
+
+pub record Proper (c : Card) : Type 0 where
+  pub title : isTitle (c .title) ≡ true
+  pub few : length (c .parts) ≤ 16
+  pub each : AllProper (c .parts)
+
+-- Why an image is broken, and where. All fields before the place are as they should be: they are the front of a card.
+pub data Break (s : List ℕ) : ℕ → Type 0 where
+  -- the first field is no title
+  no-title : ((n : ℕ) → fieldOf s ≢ Title n) → Break s 0
+  -- a rule fails at a field
+  fails : (c : Card) (rest : List ℕ) → Proper c → s ≡ frontOf c ++ rest → fieldOf rest ≡ Fails → Break s (length (frontOf c))
+  -- a title that is repeated
+  repeated : (c : Card) (rest : List ℕ) (n : ℕ) → Proper c → s ≡ frontOf c ++ rest → fieldOf rest ≡ Title n → Break s (length (frontOf c))
+  -- a seventeenth data field
+  seventeenth : (c : Card) (rest : List ℕ) → Proper c → length (c .parts) ≡ 16 → s ≡ frontOf c ++ rest
+      → ((n : ℕ) × (fieldOf rest ≡ Grids n)) ⊎ (fieldOf rest ≡ Block) → Break s (length (frontOf c))
+  -- bytes behind the end: the offset of the first of them
+  behind-end : (c : Card) (b : ℕ) (bytes : List ℕ) → Proper c → s ≡ imageOf c ++ (b ∷ bytes) → Break s (length (imageOf c))
+
+pub record ImagePromises : Type 0 where
+  -- The image of a card holds that card, ..
+  pub there-and-back : (c : Card) → Proper c → cardOf (imageOf c) ≡ sound c
+  -- .. and an image that is found sound is the image of the card that is found in it.
+  pub back-and-there : (s : List ℕ) (c : Card) → Below 8 s → cardOf s ≡ sound c → Proper c × (imageOf c ≡ s)
+  -- A place is given for a break that is there, ..
+  pub broken-there : (s : List ℕ) (at : ℕ) → Below 8 s → cardOf s ≡ broken at → Break s at
+  -- .. and every break is found, at its place.
+  pub break-found : (s : List ℕ) (at : ℕ) → Break s at → cardOf s ≡ broken at
+  -- If the last field stops where the image stops and is no end, the image's own length is given; the empty image gives 0.
+  pub no-end : (c : Card) → Proper c → cardOf (frontOf c) ≡ broken (length (frontOf c))
+  pub empty : cardOf [] ≡ broken 0
+  -- A check accepts 32,768 bytes, and refuses one more with 3, whatever stands in them.
+  pub long : (s : List ℕ) (r : Outcome) → 32768 < length s → Checked s r → numberOf r ≡ 3
+  -- A sound image gives its numbers of grids and of blocks, a broken one 4 with the place.
+  pub sound-checked : (s : List ℕ) (c : Card) (r : Outcome) → length s ≤ 32768 → cardOf s ≡ sound c → Checked s r → r ≡ counts (c .parts)
+  pub broken-checked : (s : List ℕ) (at : ℕ) (r : Outcome) → length s ≤ 32768 → cardOf s ≡ broken at → Checked s r → (numberOf r ≡ 4) × (placeOf r ≡ at)
+  -- `image::title` gives the card's title.
+  pub title-given : (s r : List ℕ) (c : Card) → cardOf s ≡ sound c → Named s r → r ≡ c .title
+
+-- No second outcome satisfies the statement of a call.
+pub record OneOutcome : Type 0 where
+  pub check : (s : List ℕ) (a b : Outcome) → Checked s a → Checked s b → a ≡ b
+  pub front : (s : List ℕ) (a b : Field) → Classified s a → Classified s b → a ≡ b
+  pub first-bad : (s : List ℕ) (a b : ℕ) → Searched s a → Searched s b → a ≡ b
+  pub title : (s a b : List ℕ) → Named s a → Named s b → a ≡ b

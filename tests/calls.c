@@ -1,0 +1,209 @@
+/* The library's calls by hand: reads a call a line and answers each with a line. `tests/calls` builds it and runs it. Words and bytes are
+   hex, numbers decimal, and `-` is the empty slice or list.
+
+     genc N                                 HEX16
+     gdec HEX16                             clean|mended|lost|tie data D flips N repaired HEX16
+     page HEX16 ..                          G C M L F | HEX16 ..
+     benc HEX4 ..                           HEX4 ..
+     bscrub HEX4 ..                         clean|mended flips N HEX4 ..
+     icheck HEX                             grids G blocks B
+     iscrub HEX                             G C M L F | G C M L F | HEX
+     iread HEX TITLEROOM DATAROOM FLIPROOM  title T grids G | HEX | D:F D:F ..
+     iwrite TITLE ROOM N N ..               HEX
+
+   G C M L F is a tally: all, clean, mended, lost, flips. D:F are the data and the flips of a grid. The blocks have as many words as they
+   are given, the one that `benc` writes has 38. A refusal is `refused N`, and where there is a place of the break `refused 4 at PLACE`. A
+   line that is no such call is answered `?`. */
+#include "library.h"
+#include "text.h"
+
+int fflush(void *);
+long getline(char **, unsigned long *, void *);
+extern void *stdin;
+
+enum { BLOCK_WORDS = 38, NUMBERS = 5, TALLIES = 10, LARGEST = 65535, LONGEST_ROOM = 1000000, LOST = 1, TIE = 5, BROKEN = 4 };
+
+/* what a call returned, if it is a refusal */
+static int refused(uint32_t number, uint64_t place)
+{
+    if (number == BROKEN)
+        printf("refused 4 at %u", (uint32_t)place);
+    else if (number != 0)
+        printf("refused %u", number);
+    return number != 0;
+}
+
+static int image_refused(uint64_t returned)
+{
+    return refused((uint32_t)(returned >> 32), returned);
+}
+
+static void print_tally(const uint32_t *tally)
+{
+    printf("%u %u %u %u %u | ", tally[0], tally[1], tally[2], tally[3], tally[4]);
+}
+
+/* Each call is given the words behind its name. It returns 0 if they are none of its. */
+static int genc(char **words, uint64_t n)
+{
+    uint64_t value, grid;
+    if (n != 1 || !read_number(words[0], LARGEST, &value))
+        return 0;
+    grid = grid_encode((uint16_t)value);
+    print_grids(&grid, 1);
+    return 1;
+}
+
+static int gdec(char **words, uint64_t n)
+{
+    uint64_t read, verdict = 0, repaired = 0;
+    if (n != 1 || !read_hex(words[0], 16, &read))
+        return 0;
+    grid_decode(&read, 1, &verdict, 1, &repaired, 1);
+    unsigned data = verdict & LARGEST, flips = verdict >> 16 & 255, number = (unsigned)(verdict >> 24);
+    printf("%s ", number == LOST ? "lost" : number == TIE ? "tie" : flips == 0 ? "clean" : "mended");
+    printf("data %u flips %u repaired ", data, flips);
+    print_grids(&repaired, 1);
+    return 1;
+}
+
+static int page(char **words, uint64_t n)
+{
+    uint32_t tally[NUMBERS];
+    uint64_t *grids = read_list(words, &n, 16);
+    if (grids == 0)
+        return 0;
+    if (!refused(page_scrub(grids, n, tally, NUMBERS), 0)) {
+        print_tally(tally);
+        print_grids(grids, n);
+    }
+    return 1;
+}
+
+static int benc(char **words, uint64_t n)
+{
+    uint16_t block[BLOCK_WORDS], *values = narrow(read_list(words, &n, 4), n);
+    if (values == 0)
+        return 0;
+    if (!refused(block_encode(values, n, block, BLOCK_WORDS), 0))
+        print_words(block, BLOCK_WORDS);
+    return 1;
+}
+
+static int bscrub(char **words, uint64_t n)
+{
+    uint16_t *block = narrow(read_list(words, &n, 4), n);
+    if (block == 0)
+        return 0;
+    uint32_t returned = block_scrub(block, n);
+    if (!refused(returned >> 8, 0)) {
+        printf("%s flips %u ", returned == 0 ? "clean" : "mended", returned);
+        print_words(block, n);
+    }
+    return 1;
+}
+
+static int icheck(char **words, uint64_t n)
+{
+    uint8_t *image = n == 1 ? read_bytes(words[0], &n) : 0;
+    if (image == 0)
+        return 0;
+    uint64_t returned = image_check(image, n);
+    if (!image_refused(returned))
+        printf("grids %u blocks %u", (unsigned)(returned & LARGEST), (unsigned)(returned >> 16));
+    return 1;
+}
+
+static int iscrub(char **words, uint64_t n)
+{
+    uint32_t tallies[TALLIES];
+    uint8_t *image = n == 1 ? read_bytes(words[0], &n) : 0;
+    if (image == 0)
+        return 0;
+    if (!image_refused(image_scrub(image, n, tallies, TALLIES))) {
+        print_tally(tallies);
+        print_tally(tallies + NUMBERS);
+        print_bytes(image, n);
+    }
+    return 1;
+}
+
+static int iread(char **words, uint64_t n)
+{
+    uint64_t rooms[3];
+    uint8_t *image = n == 4 ? read_bytes(words[0], &n) : 0;
+    if (image == 0)
+        return 0;
+    for (unsigned k = 0; k < 3; k++)
+        if (!read_number(words[1 + k], LONGEST_ROOM, &rooms[k]))
+            return 0;
+    uint8_t *title = lend(rooms[0], 1), *flips = lend(rooms[2], 1);
+    uint16_t *data = lend(rooms[1], sizeof *data);
+    uint64_t returned = image_read(image, n, title, rooms[0], data, rooms[1], flips, rooms[2]), grids = returned >> 16;
+    if (!image_refused(returned)) {
+        printf("title %u grids %u | ", (unsigned)(returned & LARGEST), (unsigned)grids);
+        print_bytes(title, returned & LARGEST);
+        printf(grids == 0 ? " | -" : " |");
+        for (uint64_t k = 0; k < grids; k++)
+            printf(" %u:%u", data[k], flips[k]);
+    }
+    return 1;
+}
+
+static int iwrite(char **words, uint64_t n)
+{
+    uint64_t t, room, k = n - 2;
+    uint8_t *title = n >= 2 ? read_bytes(words[0], &t) : 0;
+    if (title == 0 || !read_number(words[1], LONGEST_ROOM, &room))
+        return 0;
+    uint16_t *numbers = narrow(read_list(words + 2, &k, 0), k);
+    if (numbers == 0)
+        return 0;
+    uint8_t *image = lend(room, 1);
+    uint64_t returned = image_write(title, t, numbers, k, image, room);
+    if (!image_refused(returned))
+        print_bytes(image, returned);
+    return 1;
+}
+
+static const struct {
+    const char *name;
+    int (*call)(char **, uint64_t);
+} calls[] = {
+    {"genc", genc},     {"gdec", gdec},     {"page", page},   {"benc", benc},     {"bscrub", bscrub},
+    {"icheck", icheck}, {"iscrub", iscrub}, {"iread", iread}, {"iwrite", iwrite},
+};
+
+/* the words of a line, which are taken apart where they stand; how many there are */
+static uint64_t split(char *line, uint64_t length, char **words)
+{
+    uint64_t n = 0;
+    for (uint64_t k = 0; k < length; k++)
+        if (line[k] == ' ' || line[k] == '\t' || line[k] == '\r' || line[k] == '\n')
+            line[k] = 0;
+        else if (k == 0 || line[k - 1] == 0)
+            words[n++] = line + k;
+    return n;
+}
+
+static int answer(char *line, uint64_t length)
+{
+    char **words = lend(length, sizeof *words);
+    uint64_t n = strlen(line) == length ? split(line, length, words) : 0;
+    for (unsigned k = 0; n > 0 && k < sizeof calls / sizeof *calls; k++)
+        if (strcmp(words[0], calls[k].name) == 0)
+            return calls[k].call(words + 1, n - 1);
+    return 0;
+}
+
+int main(void)
+{
+    char *line = 0;
+    unsigned long size = 0;
+    for (long length; (length = getline(&line, &size, stdin)) > 0;) {
+        printf(answer(line, (uint64_t)length) ? "\n" : "?\n");
+        fflush(0);
+        take_back();
+    }
+    return 0;
+}

@@ -1,0 +1,244 @@
+/* The library's check, scrub and read-back of a card image beside the second program's. `card` runs all tests, `card SEED` runs them on
+   other images. `card SIDE BIT`, where SIDE is `library` or `second program`, runs one with that bit of one scrub of that side flipped (0
+   to 63 in the number returned, 64 to 127 in the first eight bytes of the image): it has to fail. `card images DIR` and `card images DIR
+   SEED` compare nothing: they write the images to files of DIR, which is there, and to DIR/expected the name of each with what the bench
+   has to print. A difference is reported at the number of the image, which is that of its file. */
+#include "flip.h"
+#include "images.h"
+#include "library.h"
+#include "plain.h"
+#include "room.h"
+#include "second_card.h"
+
+void *fopen(const char *, const char *);
+int fprintf(void *, const char *, ...);
+unsigned long fwrite(const void *, unsigned long, unsigned long, void *);
+int fclose(void *);
+
+enum { TALLY = TALLIES / 2, SETS = sizeof sets / sizeof *sets };
+
+static struct test again = {.name = "image scrub, a second time"};
+static struct test plain = {.name = "the plain version's image scrub, the same images"};
+
+/* how many images came before */
+static uint64_t number;
+
+/* document 01's number, and below it the place of the break or what the call tells */
+static uint64_t returned(struct image_answer a, uint64_t told)
+{
+    return (uint64_t)a.number << 32 | (a.number == 0 ? told : a.place);
+}
+
+/* a room with the image in it, and with these lengths of the other slices */
+static void lend(struct state *s, const struct image *im, struct lengths lengths)
+{
+    lengths.image = im->n;
+    draw_state(s, lengths);
+    memcpy(image_in(s), im->bytes, im->n);
+}
+
+static void check(struct test *t, const struct state *lent)
+{
+    static struct state library, second;
+    copy_state(&library, lent);
+    copy_state(&second, lent);
+    library.returned = image_check(image_in(&library), library.lengths.image);
+    struct image_answer a = second_image_check(image_in(&second), second.lengths.image);
+    second.returned = returned(a, a.grids | a.blocks << 16);
+    compare_states(t, &library, &second, number);
+}
+
+static void read_back(struct test *t, const struct state *lent)
+{
+    static struct state library, second;
+    struct lengths n = lent->lengths;
+    copy_state(&library, lent);
+    copy_state(&second, lent);
+    library.returned = image_read(image_in(&library), n.image, title_in(&library), n.title, data_in(&library), n.data, flips_in(&library),
+                                  n.flips);
+    struct image_answer a = second_image_read(image_in(&second), n.image, title_in(&second), n.title, data_in(&second), n.data,
+                                              flips_in(&second), n.flips);
+    second.returned = returned(a, a.title | a.grids << 16);
+    compare_states(t, &library, &second, number);
+}
+
+/* a second scrub finds clean + mended clean, the same lost, 0 mended, 0 flips, and alters nothing; what was refused is refused again */
+static void scrub_again(const struct state *once)
+{
+    static struct state twice, expected;
+    copy_state(&twice, once);
+    copy_state(&expected, once);
+    twice.returned = image_scrub(image_in(&twice), twice.lengths.image, tallies_in(&twice), TALLIES);
+    for (unsigned k = 0; k < TALLIES && once->returned == 0; k += TALLY) {
+        uint32_t *tally = tallies_in(&expected) + k;
+        tally[1] += tally[2];
+        tally[2] = tally[4] = 0;
+    }
+    compare_states(&again, &twice, &expected, number);
+}
+
+/* what is flipped: in the number returned, and in the first bytes of the image */
+static void flip(struct state *s, uint64_t flips[2])
+{
+    s->returned ^= flips[0];
+    for (unsigned k = 0; k < 8 && flips[1] != 0; k++)
+        image_in(s)[k] ^= (uint8_t)(flips[1] >> 8 * k);
+    flips[0] = flips[1] = 0;
+}
+
+static void scrub(struct test *t, const struct state *lent)
+{
+    static struct state library, second, plainly;
+    copy_state(&library, lent);
+    copy_state(&second, lent);
+    copy_state(&plainly, lent);
+    library.returned = image_scrub(image_in(&library), library.lengths.image, tallies_in(&library), TALLIES);
+    second.returned = returned(second_image_scrub(image_in(&second), second.lengths.image, tallies_in(&second)), 0);
+    plainly.returned = plain_image_scrub(image_in(&plainly), plainly.lengths.image, tallies_in(&plainly));
+    compare_states(&plain, &plainly, &second, number);
+    scrub_again(&library);
+    flip(&library, flip_library);
+    flip(&second, flip_second);
+    compare_states(t, &library, &second, number);
+}
+
+/* An image through the three calls, with rooms that are long enough; and what whoever made it knows of it. What is drawn here is drawn
+   again afterwards, so that the images are those of `write_image`. */
+static void compare_image(struct test *t, struct image *im)
+{
+    static struct state lent;
+    uint64_t before = drawn;
+    struct image_answer a = second_image_check(im->bytes, im->n);
+    if (im->number != NOT_KNOWN) {
+        compare(t, a.number, im->number, number);
+        compare(t, a.place, im->number == BROKEN ? im->place : 0, number);
+    }
+    lend(&lent, im, (struct lengths){TALLIES, a.grids + draw() % 3, a.grids + draw() % 3, LONGEST_TITLE + draw() % 3, 0});
+    check(t, &lent);
+    read_back(t, &lent);
+    scrub(t, &lent);
+    drawn = before;
+    number++;
+}
+
+/* the image of document 01 for the bench */
+static void worked_image(void)
+{
+    static const struct image example = {
+        .bytes = {0x01, 0x00, 0x04, 0x4D, 0x69, 0x72, 0x61, 0x02, 0x00, 0x10, 0xB0, 0x00, 0x00, 0x00, 0xB1,
+                  0xB1, 0x00, 0xB1, 0xB1, 0x00, 0x00, 0x00, 0xB1, 0x00, 0x00, 0x00, 0x7F, 0x00, 0x00},
+        .n = 29,
+    };
+    static const uint32_t tallies[TALLIES] = {2, 0, 1, 1, 1};
+    static struct state lent;
+    struct test t = {.name = "the worked image of document 01"};
+    lend(&lent, &example, (struct lengths){TALLIES, 2, 2, 4, 0});
+    check(&t, &lent);
+    read_back(&t, &lent);
+    scrub(&t, &lent);
+
+    compare(&t, image_check(image_in(&lent), 29), 2, 0);
+    compare(&t, image_read(image_in(&lent), 29, title_in(&lent), 4, data_in(&lent), 2, flips_in(&lent), 2), 4 | 2 << 16, 0);
+    compare(&t, memcmp(title_in(&lent), "Mira", 4), 0, 0);
+    compare(&t, data_in(&lent)[0] | (uint64_t)data_in(&lent)[1] << 16, 1, 0);
+    compare(&t, flips_in(&lent)[0] | (uint64_t)flips_in(&lent)[1] << 8, 1 | 255 << 8, 0);
+    compare(&t, memcmp(image_in(&lent), example.bytes, 29), 0, 0);
+    compare(&t, image_scrub(image_in(&lent), 29, tallies_in(&lent), TALLIES), 0, 0);
+    compare(&t, memcmp(tallies_in(&lent), tallies, sizeof tallies), 0, 0);
+    compare(&t, image_in(&lent)[10], 0xB1, 0);
+    image_in(&lent)[10] = 0xB0;
+    compare(&t, memcmp(image_in(&lent), example.bytes, 29), 0, 0);
+    report(&t);
+}
+
+/* each of the three rooms one place too short, just long enough, and longer: 27 combinations, and one with no room at all */
+static void try_rooms(struct test *t, struct image *im)
+{
+    static struct state lent;
+    uint64_t title = im->bytes[2], grids = second_image_check(im->bytes, im->n).grids;
+    for (unsigned c = 0; c < 27; c++) {
+        uint64_t data_room = grids + c % 3, flips_room = grids + c / 3 % 3, title_room = title + c / 9;
+        lend(&lent, im, (struct lengths){TALLIES, data_room - (grids > 0), flips_room - (grids > 0), title_room - (title > 0), 0});
+        read_back(t, &lent);
+    }
+    lend(&lent, im, (struct lengths){.tallies = TALLIES});
+    read_back(t, &lent);
+    number++;
+}
+
+/* with tallies of another length the archive alone refuses, and document 01 has no number for it */
+static void try_tallies(struct test *t, struct image *im)
+{
+    static struct state before, after;
+    for (uint64_t m = 0; m < TALLIES + 3; m++) {
+        if (m == TALLIES)
+            continue;
+        lend(&before, im, (struct lengths){.tallies = m});
+        copy_state(&after, &before);
+        after.returned = image_scrub(image_in(&after), im->n, tallies_in(&after), m);
+        before.returned = (uint64_t)255 << 32;
+        compare_states(t, &after, &before, number);
+    }
+    number++;
+}
+
+static const char *folder;
+static void *expected;
+
+static void write_image(struct test *t, struct image *im)
+{
+    static struct image scrubbed;
+    char name[300], text[BENCH_TEXT];
+    scrubbed = *im;
+    second_bench(scrubbed.bytes, scrubbed.n, text);
+    snprintf(name, sizeof name, "%s/%04u.img", folder, (unsigned)number);
+    void *file = fopen(name, "w");
+    int written = file != 0 && fwrite(im->bytes, 1, im->n, file) == im->n && fclose(file) == 0;
+    compare(t, written && fprintf(expected, "%04u.img\n%s", (unsigned)number, text) > 0, 1, number);
+    number++;
+}
+
+static int write_images(void)
+{
+    struct test t = {.name = "images written"};
+    char name[300];
+    snprintf(name, sizeof name, "%s/expected", folder);
+    expected = fopen(name, "w");
+    if (expected == 0)
+        return 1;
+    for (unsigned k = 0; k < SETS; k++)
+        sets[k].make(write_image, &t);
+    return t.compared == 0 || t.differ != 0 || fclose(expected) != 0;
+}
+
+static void use_set(use *use, struct set set)
+{
+    struct test t = {.name = set.name};
+    set.make(use, &t);
+    report_drawn(t);
+}
+
+int main(int n, char **words)
+{
+    if (n >= 3 && strcmp(words[1], "images") == 0) {
+        read_seed(n - 2, words + 2);
+        folder = words[2];
+        return write_images();
+    }
+    if (n == 3) {
+        if (!read_flip(words))
+            return 1;
+        worked_image();
+        return 0;
+    }
+    read_seed(n, words);
+    for (unsigned k = 0; k < SETS; k++)
+        use_set(compare_image, sets[k]);
+    use_set(compare_image, (struct set){"images, every byte of a small one set to every value", every_byte});
+    use_set(try_rooms, (struct set){"image read, rooms too short, just long enough and longer", some_of_each});
+    use_set(try_tallies, (struct set){"image scrub, tallies of other lengths", some_of_each});
+    worked_image();
+    report_drawn(again);
+    report_drawn(plain);
+    return 0;
+}

@@ -1,0 +1,67 @@
+/* The slices that are lent to a call on an image stand one behind the other in one room. Around each are bytes that nothing may touch. */
+#include "draw.h"
+
+void *memcpy(void *, const void *, unsigned long);
+int memcmp(const void *, const void *, unsigned long);
+
+enum { AROUND = 12, ROOM = 65536, TALLIES = 10 };
+
+/* how many places each slice has, in the order in which they stand */
+struct lengths {
+    uint64_t tallies, data, flips, title, image;
+};
+
+struct state {
+    struct lengths lengths;
+    uint64_t returned, used;
+    _Alignas(uint64_t) uint8_t room[ROOM];
+};
+
+static inline uint32_t *tallies_in(struct state *s)
+{
+    return (uint32_t *)(s->room + AROUND);
+}
+
+static inline uint16_t *data_in(struct state *s)
+{
+    return (uint16_t *)(s->room + 2 * AROUND + s->lengths.tallies * sizeof(uint32_t));
+}
+
+static inline uint8_t *flips_in(struct state *s)
+{
+    return (uint8_t *)(data_in(s) + s->lengths.data) + AROUND;
+}
+
+static inline uint8_t *title_in(struct state *s)
+{
+    return flips_in(s) + s->lengths.flips + AROUND;
+}
+
+static inline uint8_t *image_in(struct state *s)
+{
+    return title_in(s) + s->lengths.title + AROUND;
+}
+
+/* a room of these lengths, with any bytes in it */
+static inline void draw_state(struct state *s, struct lengths lengths)
+{
+    s->lengths = lengths;
+    s->returned = 0;
+    s->used = (uint64_t)(image_in(s) - s->room) + lengths.image + AROUND;
+    for (uint64_t k = 0; k < s->used; k += sizeof(uint64_t)) {
+        uint64_t any = draw();
+        memcpy(s->room + k, &any, sizeof any);
+    }
+}
+
+/* only the part of the room that is in use */
+static inline void copy_state(struct state *to, const struct state *from)
+{
+    memcpy(to, from, __builtin_offsetof(struct state, room) + from->used);
+}
+
+static inline void compare_states(struct test *t, const struct state *a, const struct state *b, uint64_t at)
+{
+    compare(t, a->returned, b->returned, at);
+    compare(t, memcmp(a->room, b->room, a->used) == 0, 1, at);
+}
