@@ -1,20 +1,19 @@
 -- What the check of an image tells, and how a sound image begins. Assumes nothing.
 use mathlib.Core.Path.{_≡_, refl, sym, ap, ap₂, _∙_, subst}
 use mathlib.Core.Bool.{Bool, true, false}
-use mathlib.Core.List.{List, [], _∷_, _++_, map, append-assoc, append-nil}
+use mathlib.Core.List.{List, _++_, map, append-assoc, append-nil}
 use Prim.Native.Nat.{ℕ, _+_, _-_, _≤_}
 use native.Mathlib.Omega.{arith}
 use lib.Dec.{leb}
 use lib.ListN.{length, take, drop, length-append, length-drop, drop-of-length-le}
 use lib.Seq.{take-at}
-use borrow.Author.Tests.{leb-true}
 use Rattle.words.specs.Word.{choose}
 use Rattle.words.specs.Fields.{Below}
 use Rattle.image.specs.declared.Field.{Field}
 use Rattle.image.specs.declared.Field.the-variants.{Title, Grids, Block, End, Fails}
 use Rattle.image.specs.declared.Outcome.{Outcome}
 use Rattle.image.specs.declared.Outcome.the-variants.{Sound, Length, Broken}
-use Rattle.image.specs.Fields.{size, value, fieldOf}
+use Rattle.image.specs.Fields.{value, fieldOf}
 use Rattle.image.specs.Card.{Part, Card, gridsIn, Found, sound, broken, walk, named, titled, cardOf, head, partsBytes, frontOf, imageOf}
 use Rattle.image.specs.Calls.{byFound, judged, counts, Checked, numberOf, titleIn, Named}
 use Rattle.image.proofs.Fields.{Stands, known, length-value}

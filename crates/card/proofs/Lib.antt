@@ -5,3 +5,6 @@ pub mod Walks
 pub mod Parts
 pub mod Readings
 pub mod Judging
+pub mod Again
+pub mod Switches
+pub mod Promises

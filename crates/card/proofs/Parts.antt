@@ -1,8 +1,7 @@
 -- A data field scrubbed, and the fields behind it: what is counted, and what stands there afterwards. Assumes nothing.
-use mathlib.Core.Path.{_≡_, refl, sym, ap, ap₂, _∙_, subst}
+use mathlib.Core.Path.{_≡_, sym, ap, ap₂, _∙_, subst}
 use mathlib.Core.List.{List, [], _∷_, _++_, map, append-assoc, append-nil}
-use Prim.Native.Nat.{ℕ, _+_, _-_, _*_, _/_, _%_, _≤_, _<_}
-use native.Mathlib.Nat.{add-assoc}
+use Prim.Native.Nat.{ℕ, _+_, _-_, _*_, _/_, _%_, _≤_}
 use native.Mathlib.Omega.{arith}
 use lib.ListN.{length, take, drop, length-append, length-map, length-drop, drop-of-length-le}
 use lib.Seq.{take-at, drop-at, drop-drop, length-take-le}
@@ -11,7 +10,7 @@ use Rattle.words.specs.Bytes.{wordsIn, bytesOf}
 use Rattle.words.proofs.Lists.{part-behind}
 use Rattle.words.proofs.Bytes.{length-words}
 use Rattle.codes.specs.Verdict.{scrubbed, flipsOf}
-use Rattle.codes.specs.Tally.{isClean, isMended, isLost, sumBy}
+use Rattle.codes.specs.Tally.{isClean, isMended, isLost}
 use Rattle.codes.proofs.Tally.{sum-append}
 use Rattle.grid.specs.Code.{gridCode}
 use Rattle.block.specs.Code.{blockCode}
@@ -19,7 +18,7 @@ use Rattle.page.specs.declared.Tally.{Tally}
 use Rattle.page.specs.Calls.{tallyOf}
 use Rattle.image.specs.declared.Field.the-variants.{Grids, Block}
 use Rattle.image.specs.Fields.{size, value, fieldOf}
-use Rattle.image.specs.Card.{Part, grids, block, sound, gridsIn, blocksIn, gridsAt, blockAt, walk, head, partBytes, partsBytes}
+use Rattle.image.specs.Card.{grids, gridsIn, blocksIn, head, partBytes, partsBytes}
 use Rattle.image.proofs.Fields.{Stands, known, length-value}
 use Rattle.image.proofs.Shape.{split, grids-size}
 use Rattle.card.specs.declared.Blocks.{Blocks}
@@ -27,7 +26,7 @@ use Rattle.card.specs.declared.Tallies.{Tallies}
 use Rattle.card.specs.Calls.{scrubbedPart, blockTally, talliesOf}
 use Rattle.card.specs.Steps.{bothGrids, withBlocks, RoomyGrids, RoomyBlocks, Walks, ScrubbedGrids, ScrubbedBlock, ScrubbedFields}
 use Rattle.card.proofs.Scrubs.{tally-two, grids-few, blocks-few}
-use Rattle.card.proofs.Walks.{less, Front, grids-front, block-front, bounded}
+use Rattle.card.proofs.Walks.{less, grids-front, block-front, bounded}
 
 -- ---- what is lent of a field, and what is found behind it
 

@@ -1,8 +1,8 @@
 -- The grids of a field read back, and those of the fields behind it; and the order of the refusals of reading back. Assumes nothing.
-use mathlib.Core.Path.{_≡_, refl, sym, ap, ap₂, _∙_}
+use mathlib.Core.Path.{_≡_, sym, ap, ap₂, _∙_}
 use mathlib.Core.Bool.{Bool, true, false, _&&_}
 use mathlib.Core.List.{List, _++_, map, map-append}
-use Prim.Native.Nat.{ℕ, _+_, _-_, _*_, _/_, _%_, _≤_, _<_}
+use Prim.Native.Nat.{ℕ, _+_, _-_, _*_, _/_, _≤_, _<_}
 use native.Mathlib.Omega.{arith}
 use lib.Dec.{leb}
 use lib.ListN.{length, take, drop, length-append, length-map}
@@ -13,9 +13,9 @@ use Rattle.words.proofs.Bytes.{length-words, laid-part}
 use Rattle.codes.specs.Verdict.{verdict}
 use Rattle.grid.specs.Code.{gridCode}
 use Rattle.image.specs.declared.Field.the-variants.{Grids}
-use Rattle.image.specs.Fields.{size, value, fieldOf}
-use Rattle.image.specs.Card.{Part, Card, sound, broken, gridsIn, gridsAt, walk, cardOf}
-use Rattle.image.proofs.Fields.{Stands, known, length-value}
+use Rattle.image.specs.Fields.{value, fieldOf}
+use Rattle.image.specs.Card.{Part, Card, broken, gridsIn, gridsAt, cardOf}
+use Rattle.image.proofs.Fields.{known, length-value}
 use Rattle.image.proofs.Shape.{grids-size}
 use Rattle.card.specs.declared.ReadAnswer.the-variants.{Done, Length, Broken, Room}
 use Rattle.card.specs.Answer.{dataOf, flipsShown}

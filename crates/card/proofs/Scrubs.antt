@@ -6,7 +6,7 @@ use mathlib.Core.List.{List, [], _∷_, _++_, map, map-append, append-nil}
 use Prim.Native.Nat.{ℕ, zero, suc, _+_, _-_, _*_, _/_, _%_, _^_, _≤_, _<_}
 use native.Mathlib.Nat.{add-zero, mul-zero, mul-suc, suc-add, add-comm, zero-add}
 use native.Mathlib.Omega.{arith}
-use lib.ListN.{length, take, drop, length-append, length-map, length-drop, take-append-drop, drop-of-length-le}
+use lib.ListN.{length, take, drop, length-append, length-drop, take-append-drop, drop-of-length-le}
 use lib.Seq.{drop-drop, take-append-le, drop-append-le, take-at, drop-at, length-take-le}
 use types.Run.{OneOf}
 use denote.Enum.Declared.{tagOf}
@@ -14,10 +14,10 @@ use borrow.Author.Tests.{eq-eqb}
 use Rattle.words.specs.Word.{choose}
 use Rattle.words.specs.Fields.{fields, joined, Below}
 use Rattle.words.specs.Bytes.{wordsIn, bytesOf}
-use Rattle.words.proofs.Fields.{length-fields, fields-joined}
+use Rattle.words.proofs.Fields.{fields-joined}
 use Rattle.words.proofs.Lists.{part-behind}
-use Rattle.words.proofs.Bytes.{length-words, length-bytes, bytes-append, bytes-words, words-below}
-use Rattle.codes.specs.Verdict.{Code, Verdict, clean, mended, lost, tie, verdict, scrubbed, repaired, flipsOf}
+use Rattle.words.proofs.Bytes.{length-words, bytes-append, bytes-words, words-below}
+use Rattle.codes.specs.Verdict.{Verdict, clean, mended, lost, tie, verdict, scrubbed, repaired, flipsOf}
 use Rattle.codes.specs.Tally.{isClean, isMended, isLost, sumBy, TallyPromises}
 use Rattle.codes.proofs.Tally.{sum-append, tallies}
 use Rattle.codes.proofs.Promises.{clean-word}
@@ -250,7 +250,7 @@ module _ (value words after : List ℕ) (r : Outcome) (fits : length value ≡ 7
         ∙ bytes-words 2 38 value fits bytes);
   }
 
-block-laws : TallyPromises blockCode
+pub block-laws : TallyPromises blockCode
 block-laws = tallies blockCode (blocks.promised .verdicts)
 
 pub blocks-few : (ws vs : List ℕ) → length ws ≤ 32768 → length vs ≤ 32768 → RoomyBlocks (blockTally ws) (blockTally vs)

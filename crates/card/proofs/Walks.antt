@@ -1,9 +1,8 @@
 -- A walk over fields that are found sound, step by step: what stands at the front, what behind it, and how much there is. Assumes nothing.
-use mathlib.Core.Path.{_≡_, refl, sym, ap, ap₂, _∙_, subst}
+use mathlib.Core.Path.{_≡_, refl, sym, ap, _∙_, subst}
 use mathlib.Core.Logic.{⊎-elim}
-use mathlib.Core.Bool.{true}
 use mathlib.Core.List.{List, [], _∷_, _++_}
-use Prim.Native.Nat.{ℕ, zero, suc, _+_, _-_, _*_, _/_, _%_, _≤_, _<_}
+use Prim.Native.Nat.{ℕ, zero, suc, _+_, _-_, _*_, _/_, _≤_}
 use native.Mathlib.Decide.{ℕ-discrete}
 use native.Mathlib.Omega.{arith}
 use lib.ListN.{length, take, drop, length-append, length-drop}
@@ -15,11 +14,11 @@ use Rattle.words.proofs.Bytes.{length-words}
 use Rattle.image.specs.declared.Field.{Field}
 use Rattle.image.specs.declared.Field.the-variants.{Title, Grids, Block, End, Fails}
 use Rattle.image.specs.Fields.{size, value, fieldOf}
-use Rattle.image.specs.Card.{Part, grids, block, Found, sound, broken, gridsIn, blocksIn, gridsAt, blockAt, before, walk, head}
+use Rattle.image.specs.Card.{Part, Found, sound, broken, gridsIn, blocksIn, gridsAt, blockAt, before, walk, head}
 use Rattle.image.proofs.Field.{the-type}
-use Rattle.image.proofs.Fields.{Stands, Known, known}
+use Rattle.image.proofs.Fields.{known}
 use Rattle.image.proofs.Walking.{walk-grids, walk-block, full-grids, full-block, walk-end, walk-behind, walk-title, walk-fails}
-use Rattle.image.proofs.Shape.{split, grids-size}
+use Rattle.image.proofs.Shape.{split}
 
 abbrev pub less : ℕ → ℕ
 less zero = zero

@@ -11,7 +11,7 @@ use Rattle.grid.specs.Code.{gridCode}
 use Rattle.block.specs.Code.{blockCode}
 use Rattle.page.specs.declared.Tally.{Tally}
 use Rattle.page.specs.Calls.{tallyOf}
-use Rattle.image.specs.Card.{Part, Found, sound, gridsIn, walk, head, partsBytes}
+use Rattle.image.specs.Card.{Part, sound, gridsIn, walk, head, partsBytes}
 use Rattle.card.specs.declared.Blocks.{Blocks}
 use Rattle.card.specs.declared.Tallies.{Tallies}
 use Rattle.card.specs.Answer.{dataOf, flipsShown}

@@ -1,10 +1,9 @@
 -- A walk over the fields, step by step, and what it counts. Assumes nothing.
 use mathlib.Core.Path.{_≡_, refl, sym, ap, ap₂, _∙_}
 use mathlib.Core.List.{List, [], _∷_, _++_}
-use Prim.Native.Nat.{ℕ, zero, suc, _+_, _/_, _≤_, _<_}
+use Prim.Native.Nat.{ℕ, zero, suc, _+_, _/_}
 use native.Mathlib.Nat.{zero-add}
 use native.Mathlib.Omega.{arith}
-use lib.Dec.{eqb}
 use lib.ListN.{length, drop, length-append}
 use types.Run.{OneOf}
 use denote.Enum.Declared.{tagOf}
@@ -14,14 +13,13 @@ use Rattle.words.specs.Bytes.{wordsIn}
 use Rattle.words.proofs.Bytes.{length-words}
 use Rattle.image.specs.declared.Field.{Field}
 use Rattle.image.specs.declared.Field.the-variants.{Title, Grids, Block, End, Fails}
-use Rattle.image.specs.declared.Outcome.{Outcome}
 use Rattle.image.specs.declared.Outcome.the-variants.{Sound, Broken}
-use Rattle.image.specs.Fields.{size, value, behind, fieldOf}
+use Rattle.image.specs.Fields.{value, fieldOf}
 use Rattle.image.specs.Card.{Part, grids, block, Card, Found, sound, broken, gridsIn, blocksIn, gridsAt, blockAt, before, follow, walk, named, titled, cardOf}
 use Rattle.image.specs.Calls.{byFound, counts}
 use Rattle.image.specs.Steps.{counted}
 use Rattle.image.proofs.Field.{the-type}
-use Rattle.image.proofs.Fields.{Stands, known, untitled}
+use Rattle.image.proofs.Fields.{known, untitled}
 
 -- ---- what is counted
 

@@ -1,17 +1,16 @@
 -- What is proved of a card image (`promised`, `one-outcome`). Assumes nothing.
 use mathlib.Core.Path.{_≡_}
 use mathlib.Core.Logic.{_≢_, _⊎_}
-use mathlib.Core.Bool.{Bool, true, false}
+use mathlib.Core.Bool.{true}
 use mathlib.Core.List.{List, [], _∷_, _++_}
 use Prim.Native.Nat.{ℕ, _+_, _^_, _≤_, _<_}
 use lib.ListN.{length}
 use Rattle.words.specs.Fields.{Below}
 use Rattle.image.specs.declared.Field.{Field}
-use Rattle.image.specs.declared.Field.the-variants.{Title, Grids, Block, End, Fails}
+use Rattle.image.specs.declared.Field.the-variants.{Title, Grids, Block, Fails}
 use Rattle.image.specs.declared.Outcome.{Outcome}
-use Rattle.image.specs.declared.Outcome.the-variants.{Sound, Length, Broken}
 use Rattle.image.specs.Fields.{isTitle, fieldOf}
-use Rattle.image.specs.Card.{Part, grids, block, Card, Found, sound, broken, cardOf, frontOf, imageOf}
+use Rattle.image.specs.Card.{Part, grids, block, Card, sound, broken, cardOf, frontOf, imageOf}
 use Rattle.image.specs.Calls.{Checked, Classified, Searched, Named, counts, numberOf, placeOf}
 
 -- A card that can stand in an image: a title of 1 to 24 bytes, each 20 to 7E hex; at most 16 data fields, each of at most 512 grids or of

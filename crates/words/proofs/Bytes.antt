@@ -3,11 +3,11 @@
 use mathlib.Core.Path.{_≡_, refl, sym, ap, ap₂, _∙_, subst}
 use mathlib.Core.List.{List, [], _∷_, _++_, append-assoc, append-nil}
 use Prim.Native.Nat.{ℕ, zero, suc, _+_, _-_, _*_, _^_, _≤_, _<_}
-use native.Mathlib.Nat.{suc-mul, zero-mul, mul-suc, mul-zero, le-of-suc-le-suc, not-suc-le-zero, add-comm}
+use native.Mathlib.Nat.{mul-suc, mul-zero, add-comm}
 use native.Mathlib.Omega.{arith}
 use lib.ListN.{length, getD, set, take, drop, length-append, length-drop, take-append-drop, drop-of-length-le}
 use lib.Pow.{pow-pos}
-use lib.Seq.{length-take-le, take-at, drop-at, drop-drop, take-suc, take-all, drop-length, drop-cons, set-at, append-snoc, getD-drop, getD-take}
+use lib.Seq.{length-take-le, take-at, drop-at, drop-drop, take-all, drop-cons, set-at, append-snoc, getD-drop}
 use Rattle.words.specs.Fields.{fields, joined, Below}
 use Rattle.words.specs.Bytes.{wordsIn, bytesOf, laid}
 use Rattle.words.proofs.Fields.{length-fields, fields-joined, joined-fields, joined-lt}

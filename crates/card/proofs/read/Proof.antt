@@ -1,6 +1,5 @@
 -- `card::read` meets its contract: 3, then 4, then 6, and all that is read stands behind no refusal. Assumes nothing.
 use mathlib.Core.Path.{_≡_, sym, ap, ap₂, _∙_, subst}
-use mathlib.Core.List.{List}
 use Prim.Native.Nat.{ℕ, _+_, _≤_}
 use native.Mathlib.Omega.{arith}
 use lib.ListN.{length, drop, length-drop}
@@ -8,12 +7,11 @@ use denote.Ref.{now}
 use borrow.Author.Tests.{leb-true}
 use Rattle.words.specs.Bytes.{laid}
 use Rattle.words.proofs.Lists.{part-behind}
-use Rattle.image.specs.Card.{Card, gridsIn, walk}
+use Rattle.image.specs.Card.{gridsIn, walk}
 use Rattle.image.specs.Calls.{Checked}
 use Rattle.card.specs.declared.ReadAnswer.the-variants.{Done}
-use Rattle.card.specs.Calls.{Read}
-use Rattle.card.specs.Steps.{Walks, ReadsFields}
-use Rattle.card.proofs.Judging.{too-long, broken-at, Whole, whole, Inside, inside, stands, title-long, title-given, walks}
+use Rattle.card.specs.Steps.{ReadsFields}
+use Rattle.card.proofs.Judging.{too-long, broken-at, whole, inside, stands, title-long, title-given, walks}
 use Rattle.card.proofs.Readings.{refused-3, refused-4, short-title, short-numbers, short-flips, all-read}
 use borrow.Author.Needs.{needs}
 use Rattle.card.proofs.read.Statement.{statement}

@@ -1,14 +1,12 @@
 -- `card::scrub` meets its contract: the whole image is checked before anything is written. Assumes nothing.
 use mathlib.Core.Path.{_≡_, sym, ap, _∙_, subst}
 use mathlib.Core.List.{List}
-use Prim.Native.Nat.{ℕ, _+_, _≤_}
+use Prim.Native.Nat.{ℕ, _+_}
 use native.Mathlib.Omega.{arith}
 use lib.ListN.{length, drop}
 use denote.Ref.{now}
 use borrow.Author.Tests.{leb-true}
 use Rattle.words.proofs.Lists.{part-behind}
-use Rattle.image.specs.declared.Outcome.{Outcome}
-use Rattle.image.specs.declared.Outcome.the-variants.{Sound, Length as TooLong, Broken as BrokenAt}
 use Rattle.image.specs.Card.{Card, walk, imageOf}
 use Rattle.image.specs.Calls.{Checked}
 use Rattle.card.specs.declared.ScrubAnswer.the-variants.{Done, Length, Broken}

@@ -1,12 +1,8 @@
 -- `card::write` meets its contract: 3, then 4, then 6. Assumes nothing.
-use mathlib.Core.Path.{_≡_, sym, ap, _∙_}
-use mathlib.Core.List.{List}
-use Prim.Native.Nat.{ℕ}
+use mathlib.Core.Path.{sym, ap, _∙_}
 use native.Mathlib.Omega.{arith}
-use lib.ListN.{length}
 use denote.Ref.{now}
 use Rattle.words.specs.Bytes.{laid}
-use Rattle.image.specs.Fields.{firstBad}
 use Rattle.image.specs.Card.{imageOf}
 use Rattle.card.specs.declared.WriteAnswer.the-variants.{Done, Length as WriteLength, Title, Room}
 use Rattle.card.specs.Calls.{cardWith, sizeWritten}

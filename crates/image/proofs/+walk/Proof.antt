@@ -1,21 +1,19 @@
 -- `image::walk` meets its contract: each step is one of the definition's. What is left gets shorter. Assumes nothing.
-use mathlib.Core.Path.{_≡_, sym, ap, _∙_, subst}
+use mathlib.Core.Path.{_≡_, sym, ap, _∙_}
 use mathlib.Core.List.{List, []}
-use Prim.Native.Nat.{ℕ, suc, _+_, _-_, _/_, _≤_, _<_}
+use Prim.Native.Nat.{ℕ, suc, _+_, _-_, _/_, _<_}
 use native.Mathlib.Nat.{add-zero}
 use native.Mathlib.Omega.{arith}
-use lib.ListN.{length, drop}
+use lib.ListN.{length}
 use denote.Ref.{now}
 use borrow.Author.Needs.{needs}
 use borrow.Fn.Kinds.{In}
 use borrow.Fn.PlainCycle.{Measures, is, falls, and}
 use Rattle.words.proofs.Lists.{part-behind, length-part}
-use Rattle.image.specs.declared.Field.the-variants.{Grids, Block, End, Title, Fails}
 use Rattle.image.specs.declared.Outcome.the-variants.{Sound, Broken}
-use Rattle.image.specs.Fields.{fieldOf}
 use Rattle.image.specs.Card.{sound, broken, walk as walkOf}
 use Rattle.image.specs.Steps.{counted}
-use Rattle.image.proofs.Fields.{Stands, known}
+use Rattle.image.proofs.Fields.{known}
 use Rattle.image.proofs.Walking.{full-grids, full-block, walk-end, walk-behind, walk-title, walk-fails, counted-grids-step, counted-block-step}
 use Rattle.image.proofs.walk.Reads as walk
 use Rattle.image.proofs.walk.Kinds as walk-kinds

@@ -1,5 +1,5 @@
 -- `image::other_field` meets its contract: tag by tag. Assumes nothing.
-use mathlib.Core.Path.{_≡_, sym, _∙_}
+use mathlib.Core.Path.{sym, _∙_}
 use borrow.Author.Tests.{eq-eqb, ne-eqb}
 use borrow.Author.Needs.{needs}
 use Rattle.image.proofs.other_field.Statement.{statement}

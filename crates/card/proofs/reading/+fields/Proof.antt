@@ -1,10 +1,9 @@
 -- `card::reading::fields` meets its contract: a grids field, and those behind it. What is left gets shorter. Assumes nothing.
 use mathlib.Core.Path.{_≡_, sym, ap, _∙_, subst}
-use mathlib.Core.List.{List, [], map}
+use mathlib.Core.List.{List, map}
 use Prim.Native.Nat.{ℕ, _+_, _-_, _*_, _/_, _<_, _≤_}
 use native.Mathlib.Omega.{arith}
-use lib.ListN.{length, take, drop, length-drop}
-use lib.Seq.{length-take-le}
+use lib.ListN.{length, take, drop}
 use denote.Ref.{now}
 use Rattle.words.specs.Fields.{Below}
 use Rattle.words.specs.Bytes.{laid}
@@ -13,11 +12,11 @@ use Rattle.words.proofs.Bytes.{laid-none}
 use Rattle.codes.specs.Verdict.{verdict}
 use Rattle.grid.specs.Code.{gridCode}
 use Rattle.image.specs.declared.Field.the-variants.{Grids, Block}
-use Rattle.image.specs.Fields.{size, value, fieldOf}
+use Rattle.image.specs.Fields.{fieldOf}
 use Rattle.image.specs.Card.{walk, gridsIn}
-use Rattle.image.proofs.Fields.{Stands, known}
+use Rattle.image.proofs.Fields.{known}
 use Rattle.card.specs.Answer.{dataOf, flipsShown}
-use Rattle.card.specs.Steps.{Walks, ReadsFields, ReadsGrids}
+use Rattle.card.specs.Steps.{ReadsFields}
 use Rattle.card.proofs.Walks.{less, grids-front, block-front, only-end}
 use Rattle.card.proofs.Parts.{value-is, value-long, walks-on, block-walks-on}
 use Rattle.card.proofs.Readings.{counted, whole-grids, read-on}

@@ -1,9 +1,9 @@
 -- `card::reading::grids` meets its contract: grid after grid. Assumes nothing.
 use mathlib.Core.Path.{_≡_, refl, ap, _∙_}
-use mathlib.Core.List.{List, map}
+use mathlib.Core.List.{map}
 use Prim.Native.Nat.{ℕ, _-_, _*_, _/_, _≤_, _<_}
 use native.Mathlib.Omega.{arith}
-use lib.ListN.{length, getD, set, take, length-set, length-map}
+use lib.ListN.{length, set, take, length-set, length-map}
 use lib.Seq.{take-all}
 use denote.Ref.{now}
 use Rattle.words.specs.Fields.{joined}

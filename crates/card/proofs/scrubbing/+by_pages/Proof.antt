@@ -1,5 +1,5 @@
 -- `card::scrubbing::by_pages` meets its contract: 64 grids, and those behind them. What is left gets shorter. Assumes nothing.
-use mathlib.Core.Path.{_≡_, sym, _∙_}
+use mathlib.Core.Path.{sym, _∙_}
 use mathlib.Core.List.{_++_}
 use Prim.Native.Nat.{ℕ, _-_, _/_, _<_, _≤_}
 use native.Mathlib.Omega.{arith}

@@ -1,16 +1,14 @@
 -- `card::scrubbing::fields` meets its contract: a data field, and those behind it. What is left gets shorter. Assumes nothing.
-use mathlib.Core.Path.{_≡_, refl, sym, ap, _∙_, subst}
-use mathlib.Core.List.{List, _++_, map}
-use Prim.Native.Nat.{ℕ, _+_, _-_, _<_, _≤_}
+use mathlib.Core.Path.{refl, sym, ap, _∙_, subst}
+use mathlib.Core.List.{_++_, map}
+use Prim.Native.Nat.{ℕ, _+_, _-_, _<_}
 use native.Mathlib.Omega.{arith}
 use lib.ListN.{length, take, drop, length-drop}
 use denote.Ref.{now}
 use Rattle.words.specs.Fields.{Below}
 use Rattle.codes.specs.Tally.{sumBy}
-use Rattle.image.specs.declared.Field.the-variants.{Grids, Block}
-use Rattle.image.specs.Fields.{size, value, fieldOf}
 use Rattle.image.specs.Card.{head, partsBytes}
-use Rattle.image.proofs.Fields.{Stands, known}
+use Rattle.image.proofs.Fields.{known}
 use Rattle.image.proofs.Shape.{grids-size}
 use Rattle.card.specs.Calls.{scrubbedPart, talliesOf}
 use Rattle.card.specs.Steps.{Walks, ScrubbedFields}

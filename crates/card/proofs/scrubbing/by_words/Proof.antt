@@ -1,11 +1,8 @@
 -- `card::scrubbing::by_words` meets its contract. Assumes nothing.
-use mathlib.Core.Path.{_≡_, sym, ap, _∙_, subst}
-use mathlib.Core.List.{List, [], _∷_}
+use mathlib.Core.Path.{ap, _∙_, subst}
 use Prim.Native.Nat.{ℕ}
-use native.Mathlib.Omega.{arith}
 use denote.Ref.{now}
 use Rattle.words.specs.Bytes.{wordsIn}
-use Rattle.block.specs.declared.Outcome.{Outcome}
 use Rattle.card.specs.declared.Blocks.{Blocks}
 use Rattle.card.specs.Steps.{ScrubbedBlock}
 use Rattle.card.proofs.Scrubs.{ofAnswer, not-mended, words-written, words-kept}

@@ -1,5 +1,4 @@
 -- `card::values::put_word` meets its contract: two stores. Assumes nothing.
-use native.Mathlib.Omega.{arith}
 use denote.Ref.{now}
 use Rattle.words.specs.Fields.{fields}
 use Rattle.card.proofs.Turns.{stored}

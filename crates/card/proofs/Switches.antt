@@ -1,0 +1,169 @@
+-- The card of a title and of grids with at most seven lamps switched in each: it can stand in an image, reads as what was written, and is
+-- put right as it was written. Assumes nothing.
+use mathlib.Core.Path.{_≡_, refl, sym, ap, _∙_}
+use mathlib.Core.Bool.{Bool, true, false, _&&_, false≢true}
+use mathlib.Core.List.{List, [], _∷_, _++_, map, append-nil}
+use Prim.Native.Nat.{ℕ, _+_, _*_, _≤_, _<_}
+use native.Mathlib.Omega.{arith}
+use lib.Dec.{leb, eqb}
+use lib.ListN.{length, getD, replicate, length-map, length-replicate, getD-replicate}
+use lib.Seq.{ext-getD}
+use borrow.Author.Tests.{leb-true, le-leb}
+use Rattle.words.specs.Word.{dist, choose}
+use Rattle.words.specs.Fields.{Below}
+use Rattle.words.specs.Bytes.{laid}
+use Rattle.words.proofs.Lists.{map-getD}
+use Rattle.words.proofs.Dist.{dist-self}
+use Rattle.codes.specs.Verdict.{Verdict, clean, mended, lost, tie, off, verdict, repaired, scrubbed}
+use Rattle.codes.specs.Promises.{Hands}
+use Rattle.grid.specs.Code.{codeword, gridCode}
+use Rattle.grid.proofs.Promises.{promised}
+use Rattle.image.specs.Fields.{firstBad, isTitle}
+use Rattle.image.specs.Card.{grids, Card, gridsIn, sound, cardOf, partBytes, partsBytes, imageOf}
+use Rattle.image.specs.Promises.{Proper}
+use Rattle.image.proofs.Promises as image
+use Rattle.card.specs.declared.ReadAnswer.{ReadAnswer}
+use Rattle.card.specs.declared.ReadAnswer.the-variants.{Done, Length, Broken, Room}
+use Rattle.card.specs.Answer.{dataOf, flipsShown}
+use Rattle.card.specs.Calls.{lengthsAllowed, roomFor, readAs, Read}
+use Rattle.card.specs.Promises.{Switched}
+use Rattle.card.proofs.Judging.{judged-as}
+use Rattle.card.proofs.Again.{below-map, grids-long, card-long}
+
+-- ---- grid by grid
+
+handed-data : (v : Verdict) (d n : ℕ) → Hands v d n → dataOf v ≡ d
+handed-data (clean e) d n h = h .0
+handed-data (mended e m) d n h = h .0
+handed-data lost d n h = absurd h
+handed-data tie d n h = absurd h
+
+handed-word : (w : ℕ) (v : Verdict) (d n : ℕ) → Hands v d n → repaired gridCode w v ≡ codeword d
+handed-word w (clean e) d n h = ap codeword (h .0)
+handed-word w (mended e m) d n h = ap codeword (h .0)
+handed-word w lost d n h = absurd h
+handed-word w tie d n h = absurd h
+
+-- a list, by its places
+mapped : (f : ℕ → ℕ) (ws ys : List ℕ) → length ws ≡ length ys → ((i : ℕ) → i < length ys → f (getD ws i 0) ≡ getD ys i 0) → map f ws ≡ ys
+mapped f ws ys e h =
+    ext-getD 0 (map f ws) ys (length-map ws f ∙ e)
+    (λ i l. let m : i < length ws = omega (arith, l, length-map ws f) in map-getD f ws i m ∙ h i (omega (arith, m, e)))
+
+module _ (ns ws : List ℕ) (small : Below 16 ns) (s : Switched ns ws) where
+  handed : (i : ℕ) → i < length ns → Hands (verdict gridCode (getD ws i 0)) (getD ns i 0) (off gridCode (getD ws i 0) (getD ns i 0))
+  handed i l = promised .verdicts .demand3 (getD ws i 0) .given (getD ns i 0) (small i) (s .few i l)
+
+  numbers-read : map (λ w. dataOf (verdict gridCode w)) ws ≡ ns
+  numbers-read =
+      mapped (λ w. dataOf (verdict gridCode w)) ws ns (s .many)
+      (λ i l. handed-data (verdict gridCode (getD ws i 0)) (getD ns i 0) (off gridCode (getD ws i 0) (getD ns i 0)) (handed i l))
+
+  pub put-right : map (scrubbed gridCode) ws ≡ map codeword ns
+  put-right =
+      mapped (scrubbed gridCode) ws (map codeword ns) (s .many ∙ sym (length-map ns codeword))
+      (λ i l.
+      let m : i < length ns = omega (arith, l, length-map ns codeword) in
+      handed-word (getD ws i 0) (verdict gridCode (getD ws i 0)) (getD ns i 0) (off gridCode (getD ws i 0) (getD ns i 0)) (handed i m)
+      ∙ sym (map-getD codeword ns i m))
+
+-- .. none switched
+module _ (ns : List ℕ) (small : Below 16 ns) where
+  pub none-switched : Switched ns (map codeword ns)
+  none-switched = record {
+    many = length-map ns codeword;
+    words = below-map 16 64 codeword (promised .constants .fits) ns small;
+    few = λ i l.
+        let e : dist (getD (map codeword ns) i 0) (codeword (getD ns i 0)) ≡ 0 =
+        ap (λ (w : ℕ). dist w (codeword (getD ns i 0))) (map-getD codeword ns i l) ∙ dist-self (codeword (getD ns i 0)) in
+        omega (arith, e);
+  }
+
+  pub no-flips : map (λ w. flipsShown (verdict gridCode w)) (map codeword ns) ≡ replicate (length ns) 0
+  no-flips =
+      mapped (λ w. flipsShown (verdict gridCode w)) (map codeword ns) (replicate (length ns) 0)
+      (length-map ns codeword ∙ sym (length-replicate (length ns) 0))
+      (λ i l.
+      let m : i < length ns = omega (arith, l, length-replicate {A = ℕ} (length ns) 0) in
+      ap (λ (w : ℕ). flipsShown (verdict gridCode w)) (map-getD codeword ns i m)
+      ∙ ap flipsShown (promised .verdicts .unharmed (getD ns i 0) (small i))
+      ∙ sym (getD-replicate (length ns) i 0 0 m))
+
+-- ---- the card
+
+abbrev pub cardOn : List ℕ → List ℕ → Card
+cardOn title ws = record { title = title; parts = grids ws ∷ [] }
+
+pub length-on : (title ws : List ℕ) → length (imageOf (cardOn title ws)) ≡ 9 + length title + 8 * length ws
+unfolding partsBytes
+length-on title ws = omega (arith, card-long (cardOn title ws), ap length (append-nil (partBytes (grids ws))), grids-long ws)
+
+-- what the writer's tests say
+both : (a b : Bool) → a && b ≡ true → (a ≡ true) × (b ≡ true)
+both true b e = (refl, e)
+both false b e = absurd (false≢true e)
+
+module _ (title ns : List ℕ) (allowed : lengthsAllowed title ns ≡ true) where
+  pub lengths : (1 ≤ length title) × (length title ≤ 24) × (length ns ≤ 512)
+  lengths =
+      let (ab, c) = both (leb 1 (length title) && leb (length title) 24) (leb (length ns) 512) allowed in
+      let (a, b) = both (leb 1 (length title)) (leb (length title) 24) ab in
+      (leb-true 1 (length title) a, leb-true (length title) 24 b, leb-true (length ns) 512 c)
+
+  titled : eqb (firstBad title) (length title) ≡ true → isTitle title ≡ true
+  titled good =
+      let (l, m, n) = lengths in
+      ap (λ (b : Bool). b && leb (length title) 24 && eqb (firstBad title) (length title)) (le-leb 1 (length title) l)
+      ∙ ap (λ (b : Bool). b && eqb (firstBad title) (length title)) (le-leb (length title) 24 m)
+      ∙ good
+
+  module _ (good : eqb (firstBad title) (length title) ≡ true) (ws : List ℕ) (s : Switched ns ws) where
+    pub proper-on : Proper (cardOn title ws)
+    proper-on = record {
+      title = titled good;
+      few = omega arith;
+      each = ((omega (arith, s .many, lengths), s .words), tt);
+    }
+
+    pub few : length (imageOf (cardOn title ws)) ≤ 32768
+    few = omega (arith, length-on title ws, s .many, lengths)
+
+    pub found-on : cardOf (imageOf (cardOn title ws)) ≡ sound (cardOn title ws)
+    found-on = image.promised .there-and-back (cardOn title ws) proper-on
+
+    -- reading back, given room
+    module _ (title₀ ns₀ flips₀ : List ℕ) (l : length title ≤ length title₀) (m : length ns ≤ length ns₀)
+        (k : length ns ≤ length flips₀) where
+      many : length (ws ++ []) ≡ length ns
+      many = ap length (append-nil ws) ∙ s .many
+
+      room : roomFor (cardOn title ws) title₀ ns₀ flips₀ ≡ true
+      room =
+          let n = length (ws ++ []) in
+          ap (λ (b : Bool). b && leb n (length ns₀) && leb n (length flips₀)) (le-leb (length title) (length title₀) l)
+          ∙ ap (λ (b : Bool). b && leb n (length flips₀)) (le-leb n (length ns₀) (omega (arith, m, many)))
+          ∙ le-leb n (length flips₀) (omega (arith, k, many))
+
+      read-as : {A : Type 0} (long : A) (breaks : ℕ → A) (short : A) (whole : Card → A)
+          → readAs (imageOf (cardOn title ws)) title₀ ns₀ flips₀ long breaks short whole ≡ whole (cardOn title ws)
+      read-as long breaks short whole =
+          judged-as (imageOf (cardOn title ws)) long breaks (λ c. choose (roomFor c title₀ ns₀ flips₀) (whole c) short)
+          (le-leb (length (imageOf (cardOn title ws))) 32768 few) found-on
+          ∙ ap (λ (b : Bool). choose b (whole (cardOn title ws)) short) room
+
+      pub read-on : (r : ReadAnswer) (title₁ ns₁ flips₁ : List ℕ) → Below 16 ns
+          → Read (imageOf (cardOn title ws)) title₀ ns₀ flips₀ r title₁ ns₁ flips₁
+          → (r ≡ Done (length title) (length ns)) × (title₁ ≡ laid title title₀) × (ns₁ ≡ laid ns ns₀)
+          × (flips₁ ≡ laid (map (λ w. flipsShown (verdict gridCode w)) ws) flips₀)
+      read-on r title₁ ns₁ flips₁ small d = (
+        d .answer
+            ∙ read-as Length Broken Room (λ c. Done (length (c .title)) (length (gridsIn (c .parts))))
+            ∙ ap (Done (length title)) many,
+        d .title-after ∙ read-as title₀ (λ at. title₀) title₀ (λ c. laid (c .title) title₀),
+        d .numbers-after
+            ∙ read-as ns₀ (λ at. ns₀) ns₀ (λ c. laid (map (λ w. dataOf (verdict gridCode w)) (gridsIn (c .parts))) ns₀)
+            ∙ ap (λ l. laid l ns₀) (ap (map (λ w. dataOf (verdict gridCode w))) (append-nil ws) ∙ numbers-read ns ws small s),
+        d .flips-after
+            ∙ read-as flips₀ (λ at. flips₀) flips₀ (λ c. laid (map (λ w. flipsShown (verdict gridCode w)) (gridsIn (c .parts))) flips₀)
+            ∙ ap (λ l. laid (map (λ w. flipsShown (verdict gridCode w)) l) flips₀) (append-nil ws),
+      )

@@ -1,0 +1,121 @@
+-- What is proved of the card's calls, each and together (`scrub-promised`, `write-promised`, `read-promised`, `one-outcome`). Assumes nothing.
+use mathlib.Core.Path.{_≡_}
+use mathlib.Core.Logic.{_≢_}
+use mathlib.Core.Bool.{true, false}
+use mathlib.Core.List.{List, [], _∷_}
+use Prim.Native.Nat.{ℕ, _+_, _*_, _≤_, _<_}
+use lib.ListN.{length, getD, take, drop, replicate}
+use Rattle.words.specs.Word.{dist}
+use Rattle.words.specs.Fields.{Below}
+use Rattle.words.specs.Bytes.{laid}
+use Rattle.grid.specs.Code.{codeword}
+use Rattle.image.specs.Fields.{firstBad}
+use Rattle.image.specs.Card.{grids, Card, sound, broken, gridsIn, blocksIn, cardOf, imageOf}
+use Rattle.image.specs.Calls.{Checked}
+use Rattle.image.specs.Promises.{Proper}
+use Rattle.image.specs.declared.Outcome.{Outcome}
+use Rattle.image.specs.declared.Outcome.the-variants.{Sound}
+use Rattle.card.specs.declared.Tallies.{Tallies}
+use Rattle.card.specs.declared.ScrubAnswer.{ScrubAnswer}
+use Rattle.card.specs.declared.ScrubAnswer.the-variants.{Done}
+use Rattle.card.specs.declared.WriteAnswer.{WriteAnswer}
+use Rattle.card.specs.declared.WriteAnswer.the-variants.{Done as WriteDone}
+use Rattle.card.specs.declared.ReadAnswer.{ReadAnswer}
+use Rattle.card.specs.declared.ReadAnswer.the-variants.{Done as ReadDone}
+use Rattle.card.specs.Answer.{scrubNumber, scrubPlace, writeNumber, writePlace, readNumber, readPlace}
+use Rattle.card.specs.Calls.{talliesOf, scrubbedCard, Scrubbed, cardWith, sizeWritten, lengthsAllowed, Wrote, roomFor, Read}
+
+-- the same card, as far as a scrub goes: title, numbers of grids and of blocks
+pub record SameFrame (c d : Card) : Type 0 where
+  pub title : d .title ≡ c .title
+  pub grids-many : length (gridsIn (d .parts)) ≡ length (gridsIn (c .parts))
+  pub blocks-many : length (blocksIn (d .parts)) ≡ length (blocksIn (c .parts))
+
+-- what a second scrub finds
+pub record Again (first second : Tallies) : Type 0 where
+  pub grids-clean : second .grids .clean ≡ first .grids .clean + first .grids .mended
+  pub grids-mended : second .grids .mended ≡ 0
+  pub grids-lost : second .grids .lost ≡ first .grids .lost
+  pub grids-flips : second .grids .flips ≡ 0
+  pub blocks-clean : second .blocks .clean ≡ first .blocks .clean + first .blocks .mended
+  pub blocks-mended : second .blocks .mended ≡ 0
+  pub blocks-lost : second .blocks .lost ≡ first .blocks .lost
+  pub blocks-flips : second .blocks .flips ≡ 0
+
+pub record ScrubPromises : Type 0 where
+  -- Over 32,768 bytes: 3; broken: 4 with the place; and nothing is written.
+  pub long : (s exit : List ℕ) (r : ScrubAnswer) → 32768 < length s → Scrubbed s r exit → (scrubNumber r ≡ 3) × (exit ≡ s)
+  pub broken-image : (s exit : List ℕ) (at : ℕ) (r : ScrubAnswer) → length s ≤ 32768 → cardOf s ≡ broken at → Scrubbed s r exit
+      → (scrubNumber r ≡ 4) × (scrubPlace r ≡ at) × (exit ≡ s)
+  -- A sound image is scrubbed, whatever its grids and blocks are: none of them is a refusal of the call.
+  pub done : (s exit : List ℕ) (c : Card) (r : ScrubAnswer) → length s ≤ 32768 → cardOf s ≡ sound c → Scrubbed s r exit
+      → (r ≡ Done (talliesOf (c .parts))) × (exit ≡ imageOf (scrubbedCard c))
+  -- Each number is the sum of clean, mended and lost.
+  pub sums : (s exit : List ℕ) (t : Tallies) → Scrubbed s (Done t) exit
+      → (t .grids .grids ≡ t .grids .clean + t .grids .mended + t .grids .lost) × (t .blocks .blocks ≡ t .blocks .clean + t .blocks .mended + t .blocks .lost)
+  -- The image stays sound and as long as it was, with the same title and counts.
+  pub stays : (s exit : List ℕ) (t : Tallies) → Below 8 s → Scrubbed s (Done t) exit
+      → (c : Card) × (d : Card) × (cardOf s ≡ sound c) × (cardOf exit ≡ sound d) × SameFrame c d × (length exit ≡ length s)
+  -- A second scrub changes nothing, and finds 0 mended.
+  pub again : (s once twice : List ℕ) (t : Tallies) (r : ScrubAnswer) → Below 8 s → Scrubbed s (Done t) once → Scrubbed once r twice
+      → (u : Tallies) × (r ≡ Done u) × Again t u × (twice ≡ once)
+
+-- ws are the grids of the numbers ns, each with at most seven lamps switched
+pub record Switched (ns ws : List ℕ) : Type 0 where
+  pub many : length ws ≡ length ns
+  pub words : Below 64 ws
+  pub few : (i : ℕ) → i < length ns → dist (getD ws i 0) (codeword (getD ns i 0)) ≤ 7
+
+pub record WritePromises : Type 0 where
+  -- A title of 0 or 25 bytes, or 513 numbers: 3; else a bad title byte: 4 with its place; else too little room: 6; else it is done.
+  pub lengths : (title ns image exit : List ℕ) (r : WriteAnswer) → Wrote title ns image r exit → lengthsAllowed title ns ≡ false → writeNumber r ≡ 3
+  pub bad-byte : (title ns image exit : List ℕ) (r : WriteAnswer) → Wrote title ns image r exit → lengthsAllowed title ns ≡ true
+      → firstBad title ≢ length title → (writeNumber r ≡ 4) × (writePlace r ≡ firstBad title)
+  pub short : (title ns image exit : List ℕ) (r : WriteAnswer) → Wrote title ns image r exit → lengthsAllowed title ns ≡ true
+      → firstBad title ≡ length title → length image < sizeWritten title ns → writeNumber r ≡ 6
+  pub accepted : (title ns image exit : List ℕ) (r : WriteAnswer) → Wrote title ns image r exit → lengthsAllowed title ns ≡ true
+      → firstBad title ≡ length title → sizeWritten title ns ≤ length image → r ≡ WriteDone (sizeWritten title ns)
+  -- A refused call writes nothing.
+  pub refused : (title ns image exit : List ℕ) (r : WriteAnswer) → Wrote title ns image r exit → (writeNumber r ≡ 0 → ⊥) → exit ≡ image
+  -- What is written is an image of 9 + t + 8n bytes; room behind it stays as it was.
+  pub written : (title ns image exit : List ℕ) (k : ℕ) → Wrote title ns image (WriteDone k) exit
+      → (k ≡ 9 + length title + 8 * length ns) × (take k exit ≡ imageOf (cardWith title ns)) × (drop k exit ≡ drop k image)
+  -- It is sound, ..
+  pub proper : (title ns image exit : List ℕ) (k : ℕ) → Below 16 ns → Wrote title ns image (WriteDone k) exit → Proper (cardWith title ns)
+  -- .. checks as n grids and 0 blocks, ..
+  pub checks : (title ns image exit : List ℕ) (k : ℕ) (r : Outcome) → Below 16 ns → Wrote title ns image (WriteDone k) exit
+      → Checked (take k exit) r → r ≡ Sound (length ns) 0
+  -- .. and reads back as the same title and numbers, with flips 0, given room.
+  pub reads-back : (title ns image exit title₀ ns₀ flips₀ title₁ ns₁ flips₁ : List ℕ) (k : ℕ) (r : ReadAnswer) → Below 16 ns
+      → Wrote title ns image (WriteDone k) exit → length title ≤ length title₀ → length ns ≤ length ns₀ → length ns ≤ length flips₀
+      → Read (take k exit) title₀ ns₀ flips₀ r title₁ ns₁ flips₁
+      → (r ≡ ReadDone (length title) (length ns)) × (title₁ ≡ laid title title₀) × (ns₁ ≡ laid ns ns₀) × (flips₁ ≡ laid (replicate (length ns) 0) flips₀)
+  -- After at most seven flips in each grid, a scrub restores the image as written, ..
+  pub restored : (title ns image exit ws after : List ℕ) (k : ℕ) (r : ScrubAnswer) → Below 16 ns → Wrote title ns image (WriteDone k) exit → Switched ns ws
+      → Scrubbed (imageOf (record { title = title; parts = grids ws ∷ [] })) r after → (scrubNumber r ≡ 0) × (after ≡ take k exit)
+  -- .. and reading back before the scrub already gives the same title and numbers.
+  pub read-before : (title ns image exit ws title₀ ns₀ flips₀ title₁ ns₁ flips₁ : List ℕ) (k : ℕ) (r : ReadAnswer) → Below 16 ns
+      → Wrote title ns image (WriteDone k) exit → Switched ns ws → length title ≤ length title₀ → length ns ≤ length ns₀ → length ns ≤ length flips₀
+      → Read (imageOf (record { title = title; parts = grids ws ∷ [] })) title₀ ns₀ flips₀ r title₁ ns₁ flips₁
+      → (r ≡ ReadDone (length title) (length ns)) × (title₁ ≡ laid title title₀) × (ns₁ ≡ laid ns ns₀)
+
+pub record ReadPromises : Type 0 where
+  -- A refused call writes nothing.
+  pub refused : (image title ns flips title′ ns′ flips′ : List ℕ) (r : ReadAnswer) → Read image title ns flips r title′ ns′ flips′ → (readNumber r ≡ 0 → ⊥)
+      → (title′ ≡ title) × (ns′ ≡ ns) × (flips′ ≡ flips)
+  -- Over 32,768 bytes: 3; else broken: 4 with the place; else a slice that is too short: 6; else it is done.
+  pub long : (image title ns flips title′ ns′ flips′ : List ℕ) (r : ReadAnswer) → 32768 < length image → Read image title ns flips r title′ ns′ flips′
+      → readNumber r ≡ 3
+  pub broken-image : (image title ns flips title′ ns′ flips′ : List ℕ) (at : ℕ) (r : ReadAnswer) → length image ≤ 32768 → cardOf image ≡ broken at
+      → Read image title ns flips r title′ ns′ flips′ → (readNumber r ≡ 4) × (readPlace r ≡ at)
+  pub short : (image title ns flips title′ ns′ flips′ : List ℕ) (c : Card) (r : ReadAnswer) → length image ≤ 32768 → cardOf image ≡ sound c
+      → Read image title ns flips r title′ ns′ flips′ → roomFor c title ns flips ≡ false → readNumber r ≡ 6
+  pub accepted : (image title ns flips title′ ns′ flips′ : List ℕ) (c : Card) (r : ReadAnswer) → length image ≤ 32768 → cardOf image ≡ sound c
+      → Read image title ns flips r title′ ns′ flips′ → roomFor c title ns flips ≡ true → r ≡ ReadDone (length (c .title)) (length (gridsIn (c .parts)))
+
+-- No second outcome satisfies the statement of a call.
+pub record OneOutcome : Type 0 where
+  pub scrub : (s a b : List ℕ) (r q : ScrubAnswer) → Scrubbed s r a → Scrubbed s q b → (r ≡ q) × (a ≡ b)
+  pub write : (title ns image a b : List ℕ) (r q : WriteAnswer) → Wrote title ns image r a → Wrote title ns image q b → (r ≡ q) × (a ≡ b)
+  pub read : (image title ns flips t₁ n₁ f₁ t₂ n₂ f₂ : List ℕ) (r q : ReadAnswer) → Read image title ns flips r t₁ n₁ f₁
+      → Read image title ns flips q t₂ n₂ f₂ → (r ≡ q) × (t₁ ≡ t₂) × (n₁ ≡ n₂) × (f₁ ≡ f₂)
