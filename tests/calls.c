@@ -13,7 +13,7 @@
 
    G C M L F is a tally: all, clean, mended, lost, flips. D:F are the data and the flips of a grid. The blocks have as many words as they
    are given, the one that `benc` writes has 38. A refusal is `refused N`, and where there is a place of the break `refused 4 at PLACE`. A
-   line that is no such call is answered `?`. */
+   line that is no such call, or lends more than 1,000,000 places, is answered `?`. */
 #include "library.h"
 #include "text.h"
 
@@ -82,7 +82,8 @@ static int page(char **words, uint64_t n)
 
 static int benc(char **words, uint64_t n)
 {
-    uint16_t block[BLOCK_WORDS], *values = narrow(read_list(words, &n, 4), n);
+    uint64_t *list = read_list(words, &n, 4);
+    uint16_t block[BLOCK_WORDS], *values = narrow(list, n);
     if (values == 0)
         return 0;
     if (!refused(block_encode(values, n, block, BLOCK_WORDS), 0))
@@ -92,7 +93,8 @@ static int benc(char **words, uint64_t n)
 
 static int bscrub(char **words, uint64_t n)
 {
-    uint16_t *block = narrow(read_list(words, &n, 4), n);
+    uint64_t *list = read_list(words, &n, 4);
+    uint16_t *block = narrow(list, n);
     if (block == 0)
         return 0;
     uint32_t returned = block_scrub(block, n);
@@ -156,7 +158,8 @@ static int iwrite(char **words, uint64_t n)
     uint8_t *title = n >= 2 ? read_bytes(words[0], &t) : 0;
     if (title == 0 || !read_number(words[1], LONGEST_ROOM, &room))
         return 0;
-    uint16_t *numbers = narrow(read_list(words + 2, &k, 0), k);
+    uint64_t *list = read_list(words + 2, &k, 0);
+    uint16_t *numbers = narrow(list, k);
     if (numbers == 0)
         return 0;
     uint8_t *image = lend(room, 1);

@@ -191,10 +191,10 @@ static void write_image(struct test *t, struct image *im)
     char name[300], text[BENCH_TEXT];
     scrubbed = *im;
     second_bench(scrubbed.bytes, scrubbed.n, text);
-    snprintf(name, sizeof name, "%s/%04u.img", folder, (unsigned)number);
+    snprintf(name, sizeof name, "%s/%05u.img", folder, (unsigned)number);
     void *file = fopen(name, "w");
     int written = file != 0 && fwrite(im->bytes, 1, im->n, file) == im->n && fclose(file) == 0;
-    compare(t, written && fprintf(expected, "%04u.img\n%s", (unsigned)number, text) > 0, 1, number);
+    compare(t, written && fprintf(expected, "%05u.img\n%s", (unsigned)number, text) > 0, 1, number);
     number++;
 }
 

@@ -194,10 +194,9 @@ static void long_images(use *use, struct test *t)
     }
 }
 
-/* every byte of a small image set to every value */
-static void every_byte(use *use, struct test *t)
+/* every byte of the image set to every value */
+static void set_bytes(use *use, struct test *t)
 {
-    draw_small();
     im.number = NOT_KNOWN;
     for (uint32_t place = 0; place < im.n; place++) {
         uint8_t was = im.bytes[place];
@@ -207,6 +206,21 @@ static void every_byte(use *use, struct test *t)
         }
         im.bytes[place] = was;
     }
+}
+
+static void every_byte(use *use, struct test *t)
+{
+    draw_small();
+    set_bytes(use, t);
+}
+
+/* the same of the least image with a grid, for the bench too */
+static void every_byte_of_the_least(use *use, struct test *t)
+{
+    begin(&im, 1);
+    add_grids(&im, 1);
+    add_head(&im, END, 0);
+    set_bytes(use, t);
 }
 
 /* a few for each rule, as many sound ones, and a long one on either side */
@@ -230,7 +244,7 @@ struct set {
     void (*make)(use *, struct test *);
 };
 
-/* those that are for the calls and for the bench; there are too many where every byte is set to every value */
+/* those that are for the calls and for the bench */
 static const struct set sets[] = {
     {"images, sound", sound},
     {"images that break one rule", one_rule},
@@ -242,4 +256,5 @@ static const struct set sets[] = {
     {"images, 14 to 18 data fields", data_fields},
     {"images, every truncation of a small one", truncations},
     {"images, 32767 to 32769 bytes", long_images},
+    {"images, every byte of the least one set to every value", every_byte_of_the_least},
 };

@@ -51,10 +51,12 @@ second ps =
     let gs = gridsIn ps in
     let bs = blocksIn ps in
     record {
+      grids-many = ap length (grids-scrubbed ps) ∙ length-map gs (scrubbed gridCode);
       grids-clean = ap (sumBy gridCode isClean) (grids-scrubbed ps) ∙ laws .again-clean gs;
       grids-mended = ap (sumBy gridCode isMended) (grids-scrubbed ps) ∙ laws .again-mended gs;
       grids-lost = ap (sumBy gridCode isLost) (grids-scrubbed ps) ∙ laws .again-lost gs;
       grids-flips = ap (sumBy gridCode flipsOf) (grids-scrubbed ps) ∙ laws .again-flips gs;
+      blocks-many = ap length (blocks-scrubbed ps) ∙ length-map bs (scrubbed blockCode);
       blocks-clean = ap (sumBy blockCode isClean) (blocks-scrubbed ps) ∙ block-laws .again-clean bs;
       blocks-mended = ap (sumBy blockCode isMended) (blocks-scrubbed ps) ∙ block-laws .again-mended bs;
       blocks-lost = ap (sumBy blockCode isLost) (blocks-scrubbed ps) ∙ block-laws .again-lost bs;

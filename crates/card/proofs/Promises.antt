@@ -32,13 +32,13 @@ use Rattle.card.specs.declared.ReadAnswer.the-variants.{Done as ReadDone
 use Rattle.card.specs.declared.ReadAnswer.the-variants.{Broken as ReadBroken, Room as ReadRoom}
 use Rattle.card.specs.Answer.{dataOf, flipsShown, scrubNumber, scrubPlace, writeNumber, writePlace, readNumber, readPlace}
 use Rattle.card.specs.Calls.{scrubbedPart, scrubbedCard, talliesOf, Scrubbed}
-use Rattle.card.specs.Calls.{cardWith, sizeWritten, lengthsAllowed, Wrote, roomFor, Read}
+use Rattle.card.specs.Calls.{cardOn, cardWith, sizeWritten, lengthsAllowed, Wrote, roomFor, readAs, Read}
 use Rattle.card.specs.Promises.{Again, ScrubPromises, Switched, WritePromises, ReadPromises, OneOutcome}
 use Rattle.card.proofs.Scrubs.{block-laws}
 use Rattle.card.proofs.Writes.{is-long, is-bad, is-short, is-done}
 use Rattle.card.proofs.Judging.{judged-long, judged-as}
 use Rattle.card.proofs.Again.{same-frame, second, still-proper, same-length, twice}
-use Rattle.card.proofs.Switches.{put-right, none-switched, no-flips, cardOn, length-on, lengths, proper-on, few, found-on, read-on}
+use Rattle.card.proofs.Switches.{put-right, none-switched, no-flips, length-on, lengths, proper-on, few, found-on, read-on}
 
 -- ---- scrub
 
@@ -123,7 +123,7 @@ scrub-promised = record {
   sums = λ s exit t h. sums s exit t h;
   stays = λ s exit t b h.
       let c = after-scrub s exit t h .card in
-      (c, scrubbedCard c, after-scrub s exit t h .is, is-now s exit t h b, same-frame c, long-now s exit t h b);
+      (c, after-scrub s exit t h .is, is-now s exit t h b, same-frame c, long-now s exit t h b);
   again = λ s once last t r b h. again s once t h b r last;
 }
 
@@ -188,12 +188,15 @@ module _ (title ns image exit : List ℕ) (k : ℕ) (h : Wrote title ns image (W
     none : Switched ns (map codeword ns)
     none = none-switched ns small
 
+    is-sound : cardOf (take k exit) ≡ sound (cardWith title ns)
+    is-sound = ap cardOf image-is ∙ found-on title ns (after-write .allowed) (after-write .good) (map codeword ns) none
+
     checks : (r : Outcome) → Checked (take k exit) r → r ≡ Sound (length ns) 0
     checks r c =
         let l = lengths title ns (after-write .allowed) in
         let m : length (map codeword ns ++ []) ≡ length ns = ap length (append-nil (map codeword ns)) ∙ length-map ns codeword in
         promised .sound-checked (take k exit) (cardWith title ns) r (omega (arith, ap length image-is, size-is, after-write .long, l))
-        (ap cardOf image-is ∙ found-on title ns (after-write .allowed) (after-write .good) (map codeword ns) none) c
+        is-sound c
         ∙ ap (λ (n : ℕ). Sound n 0) m
 
     -- with lamps switched
@@ -214,8 +217,7 @@ write-promised = record {
   accepted = λ title ns image exit r h e n l. h .answer ∙ is-done title ns image WriteLength Title Room (WriteDone (sizeWritten title ns)) e n l;
   written = λ title ns image exit k h.
       (after-write title ns image exit k h .long, image-is title ns image exit k h, behind-is title ns image exit k h);
-  proper = λ title ns image exit k small h.
-      let w = after-write title ns image exit k h in proper-on title ns (w .allowed) (w .good) (map codeword ns) (none-switched ns small);
+  is-sound = λ title ns image exit k small h. is-sound title ns image exit k h small;
   checks = λ title ns image exit k r small h c. checks title ns image exit k h small r c;
   reads-back = λ title ns image exit title₀ ns₀ flips₀ title₁ ns₁ flips₁ k r small h l m j d.
       let w = after-write title ns image exit k h in
@@ -270,10 +272,20 @@ module _ (image title ns flips title′ ns′ flips′ : List ℕ) (r : ReadAnsw
   read-broken : (at : ℕ) → length image ≤ 32768 → cardOf image ≡ broken at → r ≡ ReadBroken at
   read-broken at l e = h .answer ∙ judged-as image ReadLength ReadBroken (fits ReadRoom shown) (le-leb (length image) 32768 l) e
 
-  read-sound : (c : Card) → length image ≤ 32768 → cardOf image ≡ sound c → {b : Bool} → roomFor c title ns flips ≡ b → r ≡ choose b (shown c) ReadRoom
-  read-sound c l e n =
-      h .answer ∙ judged-as image ReadLength ReadBroken (fits ReadRoom shown) (le-leb (length image) 32768 l) e
-      ∙ ap (λ (b : Bool). choose b (shown c) ReadRoom) n
+  module _ (c : Card) (l : length image ≤ 32768) (e : cardOf image ≡ sound c) {b : Bool} (n : roomFor c title ns flips ≡ b) where
+    by-room : {A : Type 0} (long : A) (breaks : ℕ → A) (short : A) (whole : Card → A)
+        → readAs image title ns flips long breaks short whole ≡ choose b (whole c) short
+    by-room long breaks short whole =
+        judged-as image long breaks (fits short whole) (le-leb (length image) 32768 l) e ∙ ap (λ (b : Bool). choose b (whole c) short) n
+
+    read-sound : (r ≡ choose b (shown c) ReadRoom) × (title′ ≡ choose b (laid (c .title) title) title) × (ns′ ≡ choose b (datas c) ns)
+        × (flips′ ≡ choose b (counts c) flips)
+    read-sound = (
+      h .answer ∙ by-room ReadLength ReadBroken ReadRoom shown,
+      h .title-after ∙ by-room title (λ at. title) title (λ c. laid (c .title) title),
+      h .numbers-after ∙ by-room ns (λ at. ns) ns datas,
+      h .flips-after ∙ by-room flips (λ at. flips) flips counts,
+    )
 
 pub read-promised : ReadPromises
 read-promised = record {
@@ -281,7 +293,7 @@ read-promised = record {
   long = λ image title ns flips title′ ns′ flips′ r l h. read-long image title ns flips title′ ns′ flips′ r h l;
   broken-image = λ image title ns flips title′ ns′ flips′ at r l e h.
       let a = read-broken image title ns flips title′ ns′ flips′ r h at l e in (ap readNumber a, ap readPlace a);
-  short = λ image title ns flips title′ ns′ flips′ c r l e h n. ap readNumber (read-sound image title ns flips title′ ns′ flips′ r h c l e n);
+  short = λ image title ns flips title′ ns′ flips′ c r l e h n. ap readNumber (read-sound image title ns flips title′ ns′ flips′ r h c l e n .0);
   accepted = λ image title ns flips title′ ns′ flips′ c r l e h n. read-sound image title ns flips title′ ns′ flips′ r h c l e n;
 }
 

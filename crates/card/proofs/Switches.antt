@@ -25,7 +25,7 @@ use Rattle.image.proofs.Promises as image
 use Rattle.card.specs.declared.ReadAnswer.{ReadAnswer}
 use Rattle.card.specs.declared.ReadAnswer.the-variants.{Done, Length, Broken, Room}
 use Rattle.card.specs.Answer.{dataOf, flipsShown}
-use Rattle.card.specs.Calls.{lengthsAllowed, roomFor, readAs, Read}
+use Rattle.card.specs.Calls.{cardOn, lengthsAllowed, roomFor, readAs, Read}
 use Rattle.card.specs.Promises.{Switched}
 use Rattle.card.proofs.Judging.{judged-as}
 use Rattle.card.proofs.Again.{below-map, grids-long, card-long}
@@ -90,9 +90,6 @@ module _ (ns : List ℕ) (small : Below 16 ns) where
       ∙ sym (getD-replicate (length ns) i 0 0 m))
 
 -- ---- the card
-
-abbrev pub cardOn : List ℕ → List ℕ → Card
-cardOn title ws = record { title = title; parts = grids ws ∷ [] }
 
 pub length-on : (title ws : List ℕ) → length (imageOf (cardOn title ws)) ≡ 9 + length title + 8 * length ws
 unfolding partsBytes

@@ -58,9 +58,13 @@ pub record Scrubbed (image : List ℕ) (r : ScrubAnswer) (exit : List ℕ) : Typ
 
 -- ---- write
 
--- the card of a title and numbers: one grids field
+-- the card of a title and one grids field, ..
+abbrev pub cardOn : List ℕ → List ℕ → Card
+cardOn title words = record { title = title; parts = grids words ∷ [] }
+
+-- .. whose grids are those of numbers
 abbrev pub cardWith : List ℕ → List ℕ → Card
-cardWith title numbers = record { title = title; parts = grids (map codeword numbers) ∷ [] }
+cardWith title numbers = cardOn title (map codeword numbers)
 
 -- title, one grids field, end
 abbrev pub sizeWritten : List ℕ → List ℕ → ℕ

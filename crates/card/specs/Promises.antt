@@ -1,18 +1,19 @@
--- What is proved of the card's calls, each and together (`scrub-promised`, `write-promised`, `read-promised`, `one-outcome`). Assumes nothing.
+-- What is proved of the card's calls, each and together (`scrub-promised`, `write-promised`, `read-promised`, `one-outcome`). `Below k` says
+-- that each number has k bits, which is so in every slice of such numbers that is lent. Assumes nothing.
 use mathlib.Core.Path.{_≡_}
 use mathlib.Core.Logic.{_≢_}
 use mathlib.Core.Bool.{true, false}
-use mathlib.Core.List.{List, [], _∷_}
+use mathlib.Core.List.{List, map}
 use Prim.Native.Nat.{ℕ, _+_, _*_, _≤_, _<_}
 use lib.ListN.{length, getD, take, drop, replicate}
 use Rattle.words.specs.Word.{dist}
 use Rattle.words.specs.Fields.{Below}
 use Rattle.words.specs.Bytes.{laid}
-use Rattle.grid.specs.Code.{codeword}
+use Rattle.codes.specs.Verdict.{verdict}
+use Rattle.grid.specs.Code.{codeword, gridCode}
 use Rattle.image.specs.Fields.{firstBad}
-use Rattle.image.specs.Card.{grids, Card, sound, broken, gridsIn, blocksIn, cardOf, imageOf}
+use Rattle.image.specs.Card.{Card, sound, broken, gridsIn, blocksIn, cardOf, imageOf}
 use Rattle.image.specs.Calls.{Checked}
-use Rattle.image.specs.Promises.{Proper}
 use Rattle.image.specs.declared.Outcome.{Outcome}
 use Rattle.image.specs.declared.Outcome.the-variants.{Sound}
 use Rattle.card.specs.declared.Tallies.{Tallies}
@@ -22,8 +23,8 @@ use Rattle.card.specs.declared.WriteAnswer.{WriteAnswer}
 use Rattle.card.specs.declared.WriteAnswer.the-variants.{Done as WriteDone}
 use Rattle.card.specs.declared.ReadAnswer.{ReadAnswer}
 use Rattle.card.specs.declared.ReadAnswer.the-variants.{Done as ReadDone}
-use Rattle.card.specs.Answer.{scrubNumber, scrubPlace, writeNumber, writePlace, readNumber, readPlace}
-use Rattle.card.specs.Calls.{talliesOf, scrubbedCard, Scrubbed, cardWith, sizeWritten, lengthsAllowed, Wrote, roomFor, Read}
+use Rattle.card.specs.Answer.{dataOf, flipsShown, scrubNumber, scrubPlace, writeNumber, writePlace, readNumber, readPlace}
+use Rattle.card.specs.Calls.{talliesOf, scrubbedCard, Scrubbed, cardOn, cardWith, sizeWritten, lengthsAllowed, Wrote, roomFor, Read}
 
 -- the same card, as far as a scrub goes: title, numbers of grids and of blocks
 pub record SameFrame (c d : Card) : Type 0 where
@@ -33,10 +34,12 @@ pub record SameFrame (c d : Card) : Type 0 where
 
 -- what a second scrub finds
 pub record Again (first second : Tallies) : Type 0 where
+  pub grids-many : second .grids .grids ≡ first .grids .grids
   pub grids-clean : second .grids .clean ≡ first .grids .clean + first .grids .mended
   pub grids-mended : second .grids .mended ≡ 0
   pub grids-lost : second .grids .lost ≡ first .grids .lost
   pub grids-flips : second .grids .flips ≡ 0
+  pub blocks-many : second .blocks .blocks ≡ first .blocks .blocks
   pub blocks-clean : second .blocks .clean ≡ first .blocks .clean + first .blocks .mended
   pub blocks-mended : second .blocks .mended ≡ 0
   pub blocks-lost : second .blocks .lost ≡ first .blocks .lost
@@ -53,9 +56,10 @@ pub record ScrubPromises : Type 0 where
   -- Each number is the sum of clean, mended and lost.
   pub sums : (s exit : List ℕ) (t : Tallies) → Scrubbed s (Done t) exit
       → (t .grids .grids ≡ t .grids .clean + t .grids .mended + t .grids .lost) × (t .blocks .blocks ≡ t .blocks .clean + t .blocks .mended + t .blocks .lost)
-  -- The image stays sound and as long as it was, with the same title and counts.
+  -- The image stays sound and as long as it was, and holds the scrubbed card: the same title and counts, and lost grids and blocks as they
+  -- were.
   pub stays : (s exit : List ℕ) (t : Tallies) → Below 8 s → Scrubbed s (Done t) exit
-      → (c : Card) × (d : Card) × (cardOf s ≡ sound c) × (cardOf exit ≡ sound d) × SameFrame c d × (length exit ≡ length s)
+      → (c : Card) × (cardOf s ≡ sound c) × (cardOf exit ≡ sound (scrubbedCard c)) × SameFrame c (scrubbedCard c) × (length exit ≡ length s)
   -- A second scrub changes nothing, and finds 0 mended.
   pub again : (s once twice : List ℕ) (t : Tallies) (r : ScrubAnswer) → Below 8 s → Scrubbed s (Done t) once → Scrubbed once r twice
       → (u : Tallies) × (r ≡ Done u) × Again t u × (twice ≡ once)
@@ -76,12 +80,13 @@ pub record WritePromises : Type 0 where
   pub accepted : (title ns image exit : List ℕ) (r : WriteAnswer) → Wrote title ns image r exit → lengthsAllowed title ns ≡ true
       → firstBad title ≡ length title → sizeWritten title ns ≤ length image → r ≡ WriteDone (sizeWritten title ns)
   -- A refused call writes nothing.
-  pub refused : (title ns image exit : List ℕ) (r : WriteAnswer) → Wrote title ns image r exit → (writeNumber r ≡ 0 → ⊥) → exit ≡ image
+  pub refused : (title ns image exit : List ℕ) (r : WriteAnswer) → Wrote title ns image r exit → writeNumber r ≢ 0 → exit ≡ image
   -- What is written is an image of 9 + t + 8n bytes; room behind it stays as it was.
   pub written : (title ns image exit : List ℕ) (k : ℕ) → Wrote title ns image (WriteDone k) exit
       → (k ≡ 9 + length title + 8 * length ns) × (take k exit ≡ imageOf (cardWith title ns)) × (drop k exit ≡ drop k image)
   -- It is sound, ..
-  pub proper : (title ns image exit : List ℕ) (k : ℕ) → Below 16 ns → Wrote title ns image (WriteDone k) exit → Proper (cardWith title ns)
+  pub is-sound : (title ns image exit : List ℕ) (k : ℕ) → Below 16 ns → Wrote title ns image (WriteDone k) exit
+      → cardOf (take k exit) ≡ sound (cardWith title ns)
   -- .. checks as n grids and 0 blocks, ..
   pub checks : (title ns image exit : List ℕ) (k : ℕ) (r : Outcome) → Below 16 ns → Wrote title ns image (WriteDone k) exit
       → Checked (take k exit) r → r ≡ Sound (length ns) 0
@@ -90,18 +95,18 @@ pub record WritePromises : Type 0 where
       → Wrote title ns image (WriteDone k) exit → length title ≤ length title₀ → length ns ≤ length ns₀ → length ns ≤ length flips₀
       → Read (take k exit) title₀ ns₀ flips₀ r title₁ ns₁ flips₁
       → (r ≡ ReadDone (length title) (length ns)) × (title₁ ≡ laid title title₀) × (ns₁ ≡ laid ns ns₀) × (flips₁ ≡ laid (replicate (length ns) 0) flips₀)
-  -- After at most seven flips in each grid, a scrub restores the image as written, ..
+  -- After at most seven flips in each grid of it, and none elsewhere, a scrub restores the image as written, ..
   pub restored : (title ns image exit ws after : List ℕ) (k : ℕ) (r : ScrubAnswer) → Below 16 ns → Wrote title ns image (WriteDone k) exit → Switched ns ws
-      → Scrubbed (imageOf (record { title = title; parts = grids ws ∷ [] })) r after → (scrubNumber r ≡ 0) × (after ≡ take k exit)
+      → Scrubbed (imageOf (cardOn title ws)) r after → (scrubNumber r ≡ 0) × (after ≡ take k exit)
   -- .. and reading back before the scrub already gives the same title and numbers.
   pub read-before : (title ns image exit ws title₀ ns₀ flips₀ title₁ ns₁ flips₁ : List ℕ) (k : ℕ) (r : ReadAnswer) → Below 16 ns
       → Wrote title ns image (WriteDone k) exit → Switched ns ws → length title ≤ length title₀ → length ns ≤ length ns₀ → length ns ≤ length flips₀
-      → Read (imageOf (record { title = title; parts = grids ws ∷ [] })) title₀ ns₀ flips₀ r title₁ ns₁ flips₁
+      → Read (imageOf (cardOn title ws)) title₀ ns₀ flips₀ r title₁ ns₁ flips₁
       → (r ≡ ReadDone (length title) (length ns)) × (title₁ ≡ laid title title₀) × (ns₁ ≡ laid ns ns₀)
 
 pub record ReadPromises : Type 0 where
   -- A refused call writes nothing.
-  pub refused : (image title ns flips title′ ns′ flips′ : List ℕ) (r : ReadAnswer) → Read image title ns flips r title′ ns′ flips′ → (readNumber r ≡ 0 → ⊥)
+  pub refused : (image title ns flips title′ ns′ flips′ : List ℕ) (r : ReadAnswer) → Read image title ns flips r title′ ns′ flips′ → readNumber r ≢ 0
       → (title′ ≡ title) × (ns′ ≡ ns) × (flips′ ≡ flips)
   -- Over 32,768 bytes: 3; else broken: 4 with the place; else a slice that is too short: 6; else it is done.
   pub long : (image title ns flips title′ ns′ flips′ : List ℕ) (r : ReadAnswer) → 32768 < length image → Read image title ns flips r title′ ns′ flips′
@@ -111,7 +116,10 @@ pub record ReadPromises : Type 0 where
   pub short : (image title ns flips title′ ns′ flips′ : List ℕ) (c : Card) (r : ReadAnswer) → length image ≤ 32768 → cardOf image ≡ sound c
       → Read image title ns flips r title′ ns′ flips′ → roomFor c title ns flips ≡ false → readNumber r ≡ 6
   pub accepted : (image title ns flips title′ ns′ flips′ : List ℕ) (c : Card) (r : ReadAnswer) → length image ≤ 32768 → cardOf image ≡ sound c
-      → Read image title ns flips r title′ ns′ flips′ → roomFor c title ns flips ≡ true → r ≡ ReadDone (length (c .title)) (length (gridsIn (c .parts)))
+      → Read image title ns flips r title′ ns′ flips′ → roomFor c title ns flips ≡ true
+      → (r ≡ ReadDone (length (c .title)) (length (gridsIn (c .parts)))) × (title′ ≡ laid (c .title) title)
+      × (ns′ ≡ laid (map (λ w. dataOf (verdict gridCode w)) (gridsIn (c .parts))) ns)
+      × (flips′ ≡ laid (map (λ w. flipsShown (verdict gridCode w)) (gridsIn (c .parts))) flips)
 
 -- No second outcome satisfies the statement of a call.
 pub record OneOutcome : Type 0 where

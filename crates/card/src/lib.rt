@@ -6,7 +6,6 @@
 //
 // specs/Calls.antt says what each call answers and leaves, specs/Answer.antt document 01's numbers for the
 // answers, and specs/Promises.antt what is proved of them together.
-ghost use Prim.Native.Nat.{_+_, _≤_};
 ghost use Rattle.card.specs.Calls.{Scrubbed, Wrote, Read};
 use image::Outcome;
 use page::Tally;

@@ -1,7 +1,7 @@
 // The grids of an image read back.
 ghost use mathlib.Core.Path.{_≡_};
 ghost use mathlib.Core.List.{map};
-ghost use Prim.Native.Nat.{_*_, _/_, _%_, _≤_};
+ghost use Prim.Native.Nat.{_*_, _/_, _≤_};
 ghost use lib.ListN.{length};
 ghost use Rattle.words.specs.Fields.{joined};
 ghost use Rattle.words.specs.Bytes.{wordsIn, laid};

@@ -2,7 +2,6 @@
 ghost use mathlib.Core.Path.{_≡_};
 ghost use Prim.Native.Nat.{_*_, _%_, _≤_};
 ghost use lib.ListN.{length};
-ghost use Rattle.page.specs.Calls.{tallyOf};
 ghost use Rattle.card.specs.Steps.{ScrubbedGrids, ScrubbedBlock, ScrubbedFields, Walks, RoomyGrids, RoomyBlocks, noGrids, noBlocks, bothGrids, withBlocks};
 use super::Blocks;
 use super::Tallies;

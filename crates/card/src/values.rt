@@ -2,7 +2,6 @@
 ghost use mathlib.Core.Path.{_≡_};
 ghost use Prim.Native.Nat.{_*_, _≤_};
 ghost use lib.ListN.{length, take};
-ghost use lib.Seq.{sets};
 ghost use Rattle.words.specs.Fields.{fields, joined};
 ghost use Rattle.words.specs.Bytes.{wordsIn, bytesOf, laid};
 use grid::Grid;

@@ -13,8 +13,9 @@ pub fn data_places(value: u16) -> u32
     (pairs ^ (pairs << 4)) & 0x0F0F_0F0F
 }
 
-// Rows 0 to 3 from their data places, all four at a time: each data place, times the row that has it
-// alone of the four, with the places that it sets in 4 to 7.
+// Rows 0 to 3 from their data places, all four rows at a time: each data place, times the row that has
+// no other. Place 4 is set in it if the data place is one of 0, 1, 2, place 5 if one of 0, 2, 3, place 6 if
+// one of 1, 2, 3, and place 7 if an odd number of places is set before it.
 pub fn upper(places: u32) -> u32
     ensures { λ r. ⌜ ((d : ℕ) → d < 2 ^ 16 → places ≡ bitAnd (codeword d) 0x0F0F_0F0F → r ≡ codeword d % 2 ^ 32) ⌝ }
 {

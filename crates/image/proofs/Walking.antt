@@ -34,9 +34,6 @@ counted-block g b w (sound ps) =
     let e : b + length (w ∷ blocksIn ps) ≡ b + 1 + length (blocksIn ps) = omega arith in ap (Sound (g + length (gridsIn ps))) e
 counted-block g b w (broken at) = refl
 
-before-broken : (p : Part) (at : ℕ) → before p (broken at) ≡ broken at
-before-broken p at = refl
-
 -- ---- one step
 
 module _ (at : ℕ) (s : List ℕ) where

@@ -1,4 +1,5 @@
--- What is proved of a card image (`promised`, `one-outcome`). Assumes nothing.
+-- What is proved of a card image (`promised`, `one-outcome`). `Below 8` says that each number is a byte, as in every slice of bytes that is
+-- lent. Assumes nothing.
 use mathlib.Core.Path.{_≡_}
 use mathlib.Core.Logic.{_≢_, _⊎_}
 use mathlib.Core.Bool.{true}
@@ -54,7 +55,7 @@ pub record ImagePromises : Type 0 where
   -- If the last field stops where the image stops and is no end, the image's own length is given; the empty image gives 0.
   pub no-end : (c : Card) → Proper c → cardOf (frontOf c) ≡ broken (length (frontOf c))
   pub empty : cardOf [] ≡ broken 0
-  -- A check accepts 32,768 bytes, and refuses one more with 3, whatever stands in them.
+  -- Over 32,768 bytes: 3, whatever stands in them.
   pub long : (s : List ℕ) (r : Outcome) → 32768 < length s → Checked s r → numberOf r ≡ 3
   -- A sound image gives its numbers of grids and of blocks, a broken one 4 with the place.
   pub sound-checked : (s : List ℕ) (c : Card) (r : Outcome) → length s ≤ 32768 → cardOf s ≡ sound c → Checked s r → r ≡ counts (c .parts)

@@ -11,8 +11,8 @@
 // specs/Fields.antt has the rules of a field, specs/Card.antt what an image holds and where it is broken,
 // specs/Calls.antt what each call promises, and specs/Promises.antt what is proved of it.
 ghost use mathlib.Core.Path.{_≡_};
-ghost use Prim.Native.Nat.{_+_, _≤_, _<_};
-ghost use lib.ListN.{length, drop};
+ghost use Prim.Native.Nat.{_≤_, _<_};
+ghost use lib.ListN.{length};
 ghost use Rattle.image.specs.Calls.{Checked, Classified, Searched, Named};
 ghost use Rattle.image.specs.Card.{walk};
 ghost use Rattle.image.specs.Fields.{size, isTitle, isGrids, otherField};

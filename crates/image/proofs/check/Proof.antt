@@ -29,7 +29,7 @@ within s l e =
 returns : tie.Need-returns
 returns c =
     let s : List ℕ = now (c .before .before .args .image) in
-    record { answer = sym (ap (λ (b : Bool). choose b (byFound Broken (λ (c : Card). counts (c .parts)) (cardOf s)) Length) (lt-leb (length s) 32768 (c .if1 .taken))) }
+    record { answer = sym (ap (λ (b : Bool). choose b (byFound Broken (λ (c : Card). counts (c .parts)) (cardOf s)) Length) (lt-leb (length s) 32768 (omega arith))) }
 
 room : tie.Need-sub-walk
 room c =
