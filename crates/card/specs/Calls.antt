@@ -92,18 +92,23 @@ pub record Wrote (title numbers image : List ℕ) (r : WriteAnswer) (exit : List
 -- room for the title, for each grid's data and for its flips
 abbrev pub roomFor : Card → List ℕ → List ℕ → List ℕ → Bool
 roomFor c title numbers flips =
-    leb (length (c .title)) (length title) && leb (length (gridsIn (c .parts))) (length numbers) && leb (length (gridsIn (c .parts))) (length flips)
+    leb (length (c .title)) (length title) && leb (length (gridsIn (c .parts))) (length numbers)
+    && leb (length (gridsIn (c .parts))) (length flips)
 
 -- 3, then 4, then 6
 abbrev pub readAs : {A : Type 0} → List ℕ → List ℕ → List ℕ → List ℕ → A → (ℕ → A) → A → (Card → A) → A
-readAs image title numbers flips long breaks short whole = judged image long breaks (λ c. choose (roomFor c title numbers flips) (whole c) short)
+readAs image title numbers flips long breaks short whole = judged image long breaks
+    (λ c. choose (roomFor c title numbers flips) (whole c) short)
 
 -- `card::read`: the title's length and the number of grids, over all grids fields in order. The title goes to the front of one slice, each
 -- grid's data and flips to the front of two others; places behind stay untouched. A refused call writes nothing.
 pub record Read (image title numbers flips : List ℕ) (r : ReadAnswer) (title′ numbers′ flips′ : List ℕ) : Type 0 where
-  pub answer : r ≡ readAs image title numbers flips ReadLength ReadBroken ReadRoom (λ c. ReadDone (length (c .title)) (length (gridsIn (c .parts))))
+  pub answer : r ≡ readAs image title numbers flips ReadLength ReadBroken ReadRoom
+      (λ c. ReadDone (length (c .title)) (length (gridsIn (c .parts))))
   pub title-after : title′ ≡ readAs image title numbers flips title (λ at. title) title (λ c. laid (c .title) title)
   pub numbers-after : numbers′
-      ≡ readAs image title numbers flips numbers (λ at. numbers) numbers (λ c. laid (map (λ w. dataOf (verdict gridCode w)) (gridsIn (c .parts))) numbers)
+      ≡ readAs image title numbers flips numbers (λ at. numbers) numbers
+      (λ c. laid (map (λ w. dataOf (verdict gridCode w)) (gridsIn (c .parts))) numbers)
   pub flips-after : flips′
-      ≡ readAs image title numbers flips flips (λ at. flips) flips (λ c. laid (map (λ w. flipsShown (verdict gridCode w)) (gridsIn (c .parts))) flips)
+      ≡ readAs image title numbers flips flips (λ at. flips) flips
+      (λ c. laid (map (λ w. flipsShown (verdict gridCode w)) (gridsIn (c .parts))) flips)

@@ -55,7 +55,8 @@ pub record ScrubPromises : Type 0 where
       → (r ≡ Done (talliesOf (c .parts))) × (exit ≡ imageOf (scrubbedCard c))
   -- Each number is the sum of clean, mended and lost.
   pub sums : (s exit : List ℕ) (t : Tallies) → Scrubbed s (Done t) exit
-      → (t .grids .grids ≡ t .grids .clean + t .grids .mended + t .grids .lost) × (t .blocks .blocks ≡ t .blocks .clean + t .blocks .mended + t .blocks .lost)
+      → (t .grids .grids ≡ t .grids .clean + t .grids .mended + t .grids .lost)
+      × (t .blocks .blocks ≡ t .blocks .clean + t .blocks .mended + t .blocks .lost)
   -- The image stays sound and as long as it was, and holds the scrubbed card: the same title and counts, and lost grids and blocks as they
   -- were.
   pub stays : (s exit : List ℕ) (t : Tallies) → Below 8 s → Scrubbed s (Done t) exit
@@ -72,7 +73,8 @@ pub record Switched (ns ws : List ℕ) : Type 0 where
 
 pub record WritePromises : Type 0 where
   -- A title of 0 or 25 bytes, or 513 numbers: 3; else a bad title byte: 4 with its place; else too little room: 6; else it is done.
-  pub lengths : (title ns image exit : List ℕ) (r : WriteAnswer) → Wrote title ns image r exit → lengthsAllowed title ns ≡ false → writeNumber r ≡ 3
+  pub lengths : (title ns image exit : List ℕ) (r : WriteAnswer) → Wrote title ns image r exit → lengthsAllowed title ns ≡ false
+      → writeNumber r ≡ 3
   pub bad-byte : (title ns image exit : List ℕ) (r : WriteAnswer) → Wrote title ns image r exit → lengthsAllowed title ns ≡ true
       → firstBad title ≢ length title → (writeNumber r ≡ 4) × (writePlace r ≡ firstBad title)
   pub short : (title ns image exit : List ℕ) (r : WriteAnswer) → Wrote title ns image r exit → lengthsAllowed title ns ≡ true
@@ -94,28 +96,35 @@ pub record WritePromises : Type 0 where
   pub reads-back : (title ns image exit title₀ ns₀ flips₀ title₁ ns₁ flips₁ : List ℕ) (k : ℕ) (r : ReadAnswer) → Below 16 ns
       → Wrote title ns image (WriteDone k) exit → length title ≤ length title₀ → length ns ≤ length ns₀ → length ns ≤ length flips₀
       → Read (take k exit) title₀ ns₀ flips₀ r title₁ ns₁ flips₁
-      → (r ≡ ReadDone (length title) (length ns)) × (title₁ ≡ laid title title₀) × (ns₁ ≡ laid ns ns₀) × (flips₁ ≡ laid (replicate (length ns) 0) flips₀)
+      → (r ≡ ReadDone (length title) (length ns)) × (title₁ ≡ laid title title₀) × (ns₁ ≡ laid ns ns₀)
+      × (flips₁ ≡ laid (replicate (length ns) 0) flips₀)
   -- After at most seven flips in each grid of it, and none elsewhere, a scrub restores the image as written, ..
-  pub restored : (title ns image exit ws after : List ℕ) (k : ℕ) (r : ScrubAnswer) → Below 16 ns → Wrote title ns image (WriteDone k) exit → Switched ns ws
+  pub restored : (title ns image exit ws after : List ℕ) (k : ℕ) (r : ScrubAnswer) → Below 16 ns
+      → Wrote title ns image (WriteDone k) exit → Switched ns ws
       → Scrubbed (imageOf (cardOn title ws)) r after → (scrubNumber r ≡ 0) × (after ≡ take k exit)
   -- .. and reading back before the scrub already gives the same title and numbers.
   pub read-before : (title ns image exit ws title₀ ns₀ flips₀ title₁ ns₁ flips₁ : List ℕ) (k : ℕ) (r : ReadAnswer) → Below 16 ns
-      → Wrote title ns image (WriteDone k) exit → Switched ns ws → length title ≤ length title₀ → length ns ≤ length ns₀ → length ns ≤ length flips₀
+      → Wrote title ns image (WriteDone k) exit → Switched ns ws → length title ≤ length title₀ → length ns ≤ length ns₀
+      → length ns ≤ length flips₀
       → Read (imageOf (cardOn title ws)) title₀ ns₀ flips₀ r title₁ ns₁ flips₁
       → (r ≡ ReadDone (length title) (length ns)) × (title₁ ≡ laid title title₀) × (ns₁ ≡ laid ns ns₀)
 
 pub record ReadPromises : Type 0 where
   -- A refused call writes nothing.
-  pub refused : (image title ns flips title′ ns′ flips′ : List ℕ) (r : ReadAnswer) → Read image title ns flips r title′ ns′ flips′ → readNumber r ≢ 0
+  pub refused : (image title ns flips title′ ns′ flips′ : List ℕ) (r : ReadAnswer) → Read image title ns flips r title′ ns′ flips′
+      → readNumber r ≢ 0
       → (title′ ≡ title) × (ns′ ≡ ns) × (flips′ ≡ flips)
   -- Over 32,768 bytes: 3; else broken: 4 with the place; else a slice that is too short: 6; else it is done.
-  pub long : (image title ns flips title′ ns′ flips′ : List ℕ) (r : ReadAnswer) → 32768 < length image → Read image title ns flips r title′ ns′ flips′
+  pub long : (image title ns flips title′ ns′ flips′ : List ℕ) (r : ReadAnswer) → 32768 < length image
+      → Read image title ns flips r title′ ns′ flips′
       → readNumber r ≡ 3
-  pub broken-image : (image title ns flips title′ ns′ flips′ : List ℕ) (at : ℕ) (r : ReadAnswer) → length image ≤ 32768 → cardOf image ≡ broken at
+  pub broken-image : (image title ns flips title′ ns′ flips′ : List ℕ) (at : ℕ) (r : ReadAnswer) → length image ≤ 32768
+      → cardOf image ≡ broken at
       → Read image title ns flips r title′ ns′ flips′ → (readNumber r ≡ 4) × (readPlace r ≡ at)
   pub short : (image title ns flips title′ ns′ flips′ : List ℕ) (c : Card) (r : ReadAnswer) → length image ≤ 32768 → cardOf image ≡ sound c
       → Read image title ns flips r title′ ns′ flips′ → roomFor c title ns flips ≡ false → readNumber r ≡ 6
-  pub accepted : (image title ns flips title′ ns′ flips′ : List ℕ) (c : Card) (r : ReadAnswer) → length image ≤ 32768 → cardOf image ≡ sound c
+  pub accepted : (image title ns flips title′ ns′ flips′ : List ℕ) (c : Card) (r : ReadAnswer) → length image ≤ 32768
+      → cardOf image ≡ sound c
       → Read image title ns flips r title′ ns′ flips′ → roomFor c title ns flips ≡ true
       → (r ≡ ReadDone (length (c .title)) (length (gridsIn (c .parts)))) × (title′ ≡ laid (c .title) title)
       × (ns′ ≡ laid (map (λ w. dataOf (verdict gridCode w)) (gridsIn (c .parts))) ns)

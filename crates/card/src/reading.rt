@@ -60,7 +60,7 @@ fn grids(value: &[u8], numbers: &mut [u16], flips: &mut [u8])
 }
 
 // The grids of the data fields at the front of a slice, up to the end field.
-pub fn fields(rest: &[u8], numbers: &mut [u16], flips: &mut [u8])
+pub(super) fn fields(rest: &[u8], numbers: &mut [u16], flips: &mut [u8])
     requires { ⌜ ReadsFields (now rest) (now numbers) (now flips) ⌝ }
     ensures { λ r. ⌜ ReadsGrids (now (rest .entry)) (now (numbers .entry)) (now (flips .entry)) (now (numbers .exit)) (now (flips .exit)) ⌝ }
 {

@@ -151,7 +151,7 @@ fn block_field(value: &mut [u8]) -> Blocks
 }
 
 // The data fields at the front of a slice, up to the end field.
-pub fn fields(rest: &mut [u8]) -> Tallies
+pub(super) fn fields(rest: &mut [u8]) -> Tallies
     requires { ⌜ Walks (now rest) ⌝ }
     ensures { λ r. ⌜ ScrubbedFields (now (rest .entry)) r (now (rest .exit)) ⌝ }
 {

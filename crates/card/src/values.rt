@@ -7,7 +7,7 @@ ghost use Rattle.words.specs.Bytes.{wordsIn, bytesOf, laid};
 use grid::Grid;
 
 // The grid whose rows are the first eight bytes, ..
-pub fn grid_at(bytes: &[u8]) -> Grid
+pub(super) fn grid_at(bytes: &[u8]) -> Grid
     requires { ⌜ 8 ≤ length (now bytes) ⌝ }
     ensures { λ r. ⌜ r .rows ≡ take 8 (now (bytes .entry)) ⌝ }
 {
@@ -26,7 +26,7 @@ pub fn grid_at(bytes: &[u8]) -> Grid
 }
 
 // .. and the rows put there.
-pub fn put_grid(bytes: &mut [u8], grid: Grid)
+pub(super) fn put_grid(bytes: &mut [u8], grid: Grid)
     requires { ⌜ 8 ≤ length (now bytes) ⌝ }
     ensures { λ r. ⌜ now (bytes .exit) ≡ laid (grid .rows) (now (bytes .entry)) ⌝ }
 {
@@ -59,7 +59,7 @@ fn put_word(bytes: &mut [u8], word: u16)
 }
 
 // Bytes to the front of a slice.
-pub fn copy(bytes: &[u8], to: &mut [u8])
+pub(super) fn copy(bytes: &[u8], to: &mut [u8])
     requires { ⌜ length (now bytes) ≤ length (now to) ⌝ }
     ensures { λ r. ⌜ now (to .exit) ≡ laid (now (bytes .entry)) (now (to .entry)) ⌝ }
 {
@@ -71,7 +71,7 @@ pub fn copy(bytes: &[u8], to: &mut [u8])
 }
 
 // The grids of a value, as a page, ..
-pub fn grids(bytes: &[u8], page: &mut [u64])
+pub(super) fn grids(bytes: &[u8], page: &mut [u64])
     requires { ⌜ length (now bytes) ≡ 8 * length (now page) ⌝ }
     ensures { λ r. ⌜ now (page .exit) ≡ wordsIn 8 (length (now (page .entry))) (now (bytes .entry)) ⌝ }
 {
@@ -84,7 +84,7 @@ pub fn grids(bytes: &[u8], page: &mut [u64])
 }
 
 // .. and back.
-pub fn put_grids(bytes: &mut [u8], page: &[u64])
+pub(super) fn put_grids(bytes: &mut [u8], page: &[u64])
     requires { ⌜ length (now bytes) ≡ 8 * length (now page) ⌝ }
     ensures { λ r. ⌜ now (bytes .exit) ≡ bytesOf 8 (now (page .entry)) ⌝ }
 {
@@ -97,7 +97,7 @@ pub fn put_grids(bytes: &mut [u8], page: &[u64])
 }
 
 // The words of a value, ..
-pub fn words(bytes: &[u8], words: &mut [u16])
+pub(super) fn words(bytes: &[u8], words: &mut [u16])
     requires { ⌜ length (now bytes) ≡ 2 * length (now words) ⌝ }
     ensures { λ r. ⌜ now (words .exit) ≡ wordsIn 2 (length (now (words .entry))) (now (bytes .entry)) ⌝ }
 {
@@ -110,7 +110,7 @@ pub fn words(bytes: &[u8], words: &mut [u16])
 }
 
 // .. and back.
-pub fn put_words(bytes: &mut [u8], words: &[u16])
+pub(super) fn put_words(bytes: &mut [u8], words: &[u16])
     requires { ⌜ length (now bytes) ≡ 2 * length (now words) ⌝ }
     ensures { λ r. ⌜ now (bytes .exit) ≡ bytesOf 2 (now (words .entry)) ⌝ }
 {

@@ -47,7 +47,7 @@ fn lay_grids(numbers: &[u16], image: &mut [u8])
 }
 
 // The whole image.
-pub fn lay(title: &[u8], numbers: &[u16], image: &mut [u8])
+pub(super) fn lay(title: &[u8], numbers: &[u16], image: &mut [u8])
     requires { ⌜ Fits (now title) (now numbers) (now image) ⌝ }
     ensures { λ r. ⌜ now (image .exit) ≡ laid (imageOf (cardWith (now (title .entry)) (now (numbers .entry)))) (now (image .entry)) ⌝ }
 {

@@ -59,7 +59,8 @@ pub record ImagePromises : Type 0 where
   pub long : (s : List ℕ) (r : Outcome) → 32768 < length s → Checked s r → numberOf r ≡ 3
   -- A sound image gives its numbers of grids and of blocks, a broken one 4 with the place.
   pub sound-checked : (s : List ℕ) (c : Card) (r : Outcome) → length s ≤ 32768 → cardOf s ≡ sound c → Checked s r → r ≡ counts (c .parts)
-  pub broken-checked : (s : List ℕ) (at : ℕ) (r : Outcome) → length s ≤ 32768 → cardOf s ≡ broken at → Checked s r → (numberOf r ≡ 4) × (placeOf r ≡ at)
+  pub broken-checked : (s : List ℕ) (at : ℕ) (r : Outcome) → length s ≤ 32768 → cardOf s ≡ broken at → Checked s r
+      → (numberOf r ≡ 4) × (placeOf r ≡ at)
   -- `image::title` gives the card's title.
   pub title-given : (s r : List ℕ) (c : Card) → cardOf s ≡ sound c → Named s r → r ≡ c .title
 
