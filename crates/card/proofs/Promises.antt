@@ -52,7 +52,7 @@ module _ (s exit : List ℕ) (r : ScrubAnswer) (h : Scrubbed s r exit) where
   long : 32768 < length s → (r ≡ Length) × (exit ≡ s)
   long l =
       let e = lt-leb (length s) 32768 l in
-      (h .answer ∙ judged-long s Length Broken counted e, h .after ∙ judged-long s s (λ at. s) mended e)
+      (h .answer ∙ judged-long s Length Broken counted e, h .after ∙ judged-long s s _ _ e)
 
   told : length s ≤ 32768 → {x : Found Card} → cardOf s ≡ x → (r ≡ byFound Broken counted x) × (exit ≡ byFound (λ at. s) mended x)
   told l f =
@@ -139,13 +139,13 @@ module _ (title ns image exit : List ℕ) (r : WriteAnswer) (h : Wrote title ns 
 
   not-written : (writeNumber r ≡ 0 → ⊥) → exit ≡ image
   not-written n =
-      go (lengthsAllowed title ns) (eqb (firstBad title) (length title)) (leb (sizeWritten title ns) (length image)) (h .answer) (h .after)
+      go _ (lengthsAllowed title ns) (eqb (firstBad title) (length title)) (leb (sizeWritten title ns) (length image)) (h .answer) (h .after)
     where
-      go : (a b c : Bool) → Answers a b c → exit ≡ tested a b c image image image (laid (imageOf (cardWith title ns)) image) → exit ≡ image
-      go true true true e f = absurd (n (ap writeNumber e))
-      go true true false e f = f
-      go true false c e f = f
-      go false b c e f = f
+      go : (done : List ℕ) (a b c : Bool) → Answers a b c → exit ≡ tested a b c image image image done → exit ≡ image
+      go done true true true e f = absurd (n (ap writeNumber e))
+      go done true true false e f = f
+      go done true false c e f = f
+      go done false b c e f = f
 
 -- what was done, and is no refusal
 record AfterWrite (title ns image exit : List ℕ) (k : ℕ) : Type 0 where

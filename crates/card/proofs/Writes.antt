@@ -42,29 +42,16 @@ module _ (title ns image : List ℕ) where
   allowed l m h = titled l m ∙ le-leb (length ns) 512 h
 
   module _ {A : Type 0} (long : A) (bad : ℕ → A) (short done : A) where
-    abbrev fitting : A
-    fitting = choose (leb (sizeWritten title ns) (length image)) done short
-
-    abbrev named : A
-    named = choose (eqb (firstBad title) (length title)) fitting (bad (firstBad title))
-
     pub is-long : lengthsAllowed title ns ≡ false → chosen title ns image long bad short done ≡ long
-    is-long e = ap (λ (b : Bool). choose b named long) e
+    is-long e = rw e
 
     pub is-bad : lengthsAllowed title ns ≡ true → (firstBad title ≡ length title → ⊥) → chosen title ns image long bad short done ≡ bad (firstBad title)
-    is-bad e h =
-        ap (λ (b : Bool). choose b named long) e
-        ∙ ap (λ (b : Bool). choose b fitting (bad (firstBad title))) (ne-eqb (firstBad title) (length title) h)
-
-    whole : lengthsAllowed title ns ≡ true → firstBad title ≡ length title → chosen title ns image long bad short done ≡ fitting
-    whole e h =
-        ap (λ (b : Bool). choose b named long) e
-        ∙ ap (λ (b : Bool). choose b fitting (bad (firstBad title))) (eq-eqb (firstBad title) (length title) h)
+    is-bad e h = rw (e, ne-eqb (firstBad title) (length title) h)
 
     pub is-short : lengthsAllowed title ns ≡ true → firstBad title ≡ length title → length image < sizeWritten title ns
         → chosen title ns image long bad short done ≡ short
-    is-short e h l = whole e h ∙ ap (λ (b : Bool). choose b done short) (lt-leb (sizeWritten title ns) (length image) l)
+    is-short e h l = rw (e, eq-eqb (firstBad title) (length title) h, lt-leb (sizeWritten title ns) (length image) l)
 
     pub is-done : lengthsAllowed title ns ≡ true → firstBad title ≡ length title → sizeWritten title ns ≤ length image
         → chosen title ns image long bad short done ≡ done
-    is-done e h l = whole e h ∙ ap (λ (b : Bool). choose b done short) (le-leb (sizeWritten title ns) (length image) l)
+    is-done e h l = rw (e, eq-eqb (firstBad title) (length title) h, le-leb (sizeWritten title ns) (length image) l)

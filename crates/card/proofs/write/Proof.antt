@@ -18,8 +18,8 @@ returns c =
     let ns = now (s .args .numbers) in
     let image = now (s .args .image) in
     record {
-      answer = sym (is-long t ns image WriteLength Title Room (Done (sizeWritten t ns)) (no-title t ns image (c .if1 .taken)));
-      after = sym (is-long t ns image image (λ at. image) image (laid (imageOf (cardWith t ns)) image) (no-title t ns image (c .if1 .taken)));
+      answer = sym (is-long t ns image WriteLength Title Room (Done (sizeWritten t ns)) (no-title t ns image (omega arith)));
+      after = sym (is-long t ns image image (λ at. image) image (laid (imageOf (cardWith t ns)) image) (no-title t ns image (omega arith)));
     }
 
 returns-2 : tie.Need-returns-2
@@ -29,8 +29,8 @@ returns-2 c =
     let ns = now (s .args .numbers) in
     let image = now (s .args .image) in
     record {
-      answer = sym (is-long t ns image WriteLength Title Room (Done (sizeWritten t ns)) (long-title t ns image (omega arith) (c .if2 .taken)));
-      after = sym (is-long t ns image image (λ at. image) image (laid (imageOf (cardWith t ns)) image) (long-title t ns image (omega arith) (c .if2 .taken)));
+      answer = sym (is-long t ns image WriteLength Title Room (Done (sizeWritten t ns)) (long-title t ns image (omega arith) (omega arith)));
+      after = sym (is-long t ns image image (λ at. image) image (laid (imageOf (cardWith t ns)) image) (long-title t ns image (omega arith) (omega arith)));
     }
 
 returns-3 : tie.Need-returns-3
@@ -40,8 +40,8 @@ returns-3 c =
     let ns = now (s .args .numbers) in
     let image = now (s .args .image) in
     record {
-      answer = sym (is-long t ns image WriteLength Title Room (Done (sizeWritten t ns)) (many-numbers t ns image (omega arith) (omega arith) (c .if3 .taken)));
-      after = sym (is-long t ns image image (λ at. image) image (laid (imageOf (cardWith t ns)) image) (many-numbers t ns image (omega arith) (omega arith) (c .if3 .taken)));
+      answer = sym (is-long t ns image WriteLength Title Room (Done (sizeWritten t ns)) (many-numbers t ns image (omega arith) (omega arith) (omega arith)));
+      after = sym (is-long t ns image image (λ at. image) image (laid (imageOf (cardWith t ns)) image) (many-numbers t ns image (omega arith) (omega arith) (omega arith)));
     }
 
 returns-4 : tie.Need-returns-4

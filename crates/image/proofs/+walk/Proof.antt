@@ -116,7 +116,7 @@ module _ (t : ℕ) where
       let a = n .before .before .before .before .args in
       let e : counted (a .grids) (a .blocks) (sound []) ≡ Sound (a .grids) (a .blocks) = simp add-zero in
       sym (ap (counted (a .grids) (a .blocks)) (walk-end (a .at) (now (a .rest)) (a .left)
-      (sym (n .before .before .front .ensures .answer) ∙ n .enum-told2 .given .1) (c .if3 .taken)) ∙ e)
+      (sym (n .before .before .front .ensures .answer) ∙ n .enum-told2 .given .1) (omega arith)) ∙ e)
 
   walked-grids : lts.Need-returns-4 (front-reads.Asked, front-reads.Learnt, walk-below t, walk.Post) (walk-at t) walk.Post
   walked-grids c =

@@ -23,19 +23,19 @@ returns : tie.Need-returns Inv-loop μ-loop
 returns c =
     let i = c .before .before .before .loop .i in
     let t : List ℕ = now (c .before .before .before .before .args .bytes) in
-    record { answer = omega (arith, bad-here t i (omega arith) (low (getD t i 0) (c .if1 .taken))) }
+    record { answer = omega (arith, bad-here t i (omega arith) (low (getD t i 0) (omega arith))) }
 
 returns-2 : tie.Need-returns-2 Inv-loop μ-loop
 returns-2 c =
     let i = c .before .before .before .before .loop .i in
     let t : List ℕ = now (c .before .before .before .before .before .args .bytes) in
-    record { answer = omega (arith, bad-here t i (omega arith) (high (getD t i 0) (c .if2 .taken))) }
+    record { answer = omega (arith, bad-here t i (omega arith) (high (getD t i 0) (omega arith))) }
 
 loop-again : tie.Need-loop-again Inv-loop μ-loop
 loop-again c =
     let i = c .before .before .before .before .loop .i in
     let t : List ℕ = now (c .before .before .before .before .before .args .bytes) in
-    omega (arith, bad-later t i (omega arith) (fine (getD t i 0) (c .before .if1 .left) (c .if2 .left)))
+    omega (arith, bad-later t i (omega arith) (fine (getD t i 0) (omega arith) (omega arith)))
 
 returns-3 : tie.Need-returns-3 Inv-loop μ-loop
 returns-3 c =
