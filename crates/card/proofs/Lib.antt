@@ -1,4 +1,3 @@
-pub mod Turns
 pub mod Scrubs
 pub mod Writes
 pub mod Walks

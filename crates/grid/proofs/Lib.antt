@@ -5,3 +5,4 @@ pub mod Solving
 pub mod Decoder
 pub mod Promises
 pub mod Verdicts
+pub mod Numbers

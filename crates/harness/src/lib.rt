@@ -4,6 +4,8 @@ ghost use mathlib.Core.Path.{_≡_};
 ghost use lib.ListN.{getD};
 ghost use Rattle.words.specs.Fields.{fields};
 ghost use Rattle.grid.specs.Equations.{Codeword};
+ghost use Rattle.grid.specs.Answer.{means};
+ghost use Rattle.harness.specs.Exports.{packed, Decoding};
 use grid::Grid;
 use grid::Verdict;
 
@@ -56,10 +58,12 @@ pub extern "C" fn grid_distance() -> u32
 }
 
 // An answer as one number: the data, the flips from bit 16 on, document 01's number from bit 24 on.
-fn packed(verdict: Verdict) -> u64 {
+fn packed(verdict: Verdict) -> u64
+    ensures { λ r. ⌜ r ≡ packed (means verdict) ⌝ }
+{
     match verdict {
         Verdict::Clean(data) => data as u64,
-        Verdict::Mended { data, flips } => (data as u64) | ((flips as u64) << 16),
+        Verdict::Mended { data, flips } => (data as u64) + (flips as u64) * 65536,
         Verdict::Lost => 0x0100_0000,
         Verdict::Tie => 0x0500_0000,
     }
@@ -68,7 +72,9 @@ fn packed(verdict: Verdict) -> u64 {
 // The answers on the grids with the numbers `words`: each verdict as one number, and the number of the
 // grid beside it. Three slices of one length, or nothing is done.
 #[no_mangle]
-pub extern "C" fn grid_decode(words: &[u64], verdicts: &mut [u64], repaired: &mut [u64]) {
+pub extern "C" fn grid_decode(words: &[u64], verdicts: &mut [u64], repaired: &mut [u64])
+    ensures { λ r. ⌜ Decoding (now (words .entry)) (now (verdicts .entry)) (now (repaired .entry)) (now (verdicts .exit)) (now (repaired .exit)) ⌝ }
+{
     let n = words.len();
     if verdicts.len() != n {
         return;

@@ -1,29 +1,46 @@
 // The calls on a card image, on plain numbers, for the tests and for counting instructions. No part of
 // the product. A crate of its own, so that the archives of the others stay small.
-//
-// Each returns document 01's number from bit 32 on. Below it stands the place of a break, or what the
-// call gives.
+ghost use mathlib.Core.Path.{_≡_};
+ghost use Prim.Native.Nat.{_<_};
+ghost use Rattle.image.specs.Calls.{Checked};
+ghost use Rattle.image.specs.declared.Outcome.{Outcome};
+ghost use Rattle.card.specs.Calls.{Wrote, Read};
+ghost use Rattle.card.specs.declared.WriteAnswer.{WriteAnswer};
+ghost use Rattle.card.specs.declared.ReadAnswer.{ReadAnswer};
+ghost use Rattle.harness_card.specs.Exports.{packed, checkGives, writeGives, readGives, Exported};
 use card::ReadAnswer;
 use card::ScrubAnswer;
 use card::WriteAnswer;
 use image::Outcome;
 
+// Document 01's number from bit 32 on. Below it stand the place of a break, or what the call gives.
+fn packed(number: u64, low: usize, high: usize) -> u64
+    requires { ⌜ number < 256 ⌝ }
+    ensures { λ r. ⌜ r ≡ packed number low high ⌝ }
+{
+    number * 4294967296 + ((high % 65536) as u64) * 65536 + ((low % 65536) as u64)
+}
+
 // The grids, and the blocks from bit 16 on.
 #[no_mangle]
-pub extern "C" fn image_check(image: &[u8]) -> u64 {
+pub extern "C" fn image_check(image: &[u8]) -> u64
+    ensures { λ r. ⌜ ((a : Outcome) × Checked (now (image .entry)) a × (r ≡ checkGives a)) ⌝ }
+{
     match image::check(image) {
-        Outcome::Sound { grids, blocks } => (grids as u64) | ((blocks as u64) << 16),
-        Outcome::Length => 3 << 32,
-        Outcome::Broken(at) => (4 << 32) | (at as u64),
+        Outcome::Sound { grids, blocks } => packed(0, grids, blocks),
+        Outcome::Length => packed(3, 0, 0),
+        Outcome::Broken(at) => packed(4, at, 0),
     }
 }
 
 // The five numbers of the grids and the five of the blocks go to `tallies`, which has ten places; 255 is
 // returned where it has another length, and then nothing is done.
 #[no_mangle]
-pub extern "C" fn image_scrub(image: &mut [u8], tallies: &mut [u32]) -> u64 {
+pub extern "C" fn image_scrub(image: &mut [u8], tallies: &mut [u32]) -> u64
+    ensures { λ r. ⌜ Exported (now (image .entry)) (now (tallies .entry)) r (now (image .exit)) (now (tallies .exit)) ⌝ }
+{
     if tallies.len() != 10 {
-        return 255 << 32;
+        return packed(255, 0, 0);
     }
     match card::scrub(image) {
         ScrubAnswer::Done(t) => {
@@ -39,21 +56,23 @@ pub extern "C" fn image_scrub(image: &mut [u8], tallies: &mut [u32]) -> u64 {
             tallies[7] = blocks.mended;
             tallies[8] = blocks.lost;
             tallies[9] = blocks.flips;
-            0
+            packed(0, 0, 0)
         }
-        ScrubAnswer::Length => 3 << 32,
-        ScrubAnswer::Broken(at) => (4 << 32) | (at as u64),
+        ScrubAnswer::Length => packed(3, 0, 0),
+        ScrubAnswer::Broken(at) => packed(4, at, 0),
     }
 }
 
 // The bytes written.
 #[no_mangle]
-pub extern "C" fn image_write(title: &[u8], numbers: &[u16], image: &mut [u8]) -> u64 {
+pub extern "C" fn image_write(title: &[u8], numbers: &[u16], image: &mut [u8]) -> u64
+    ensures { λ r. ⌜ ((a : WriteAnswer) × Wrote (now (title .entry)) (now (numbers .entry)) (now (image .entry)) a (now (image .exit)) × (r ≡ writeGives a)) ⌝ }
+{
     match card::write(title, numbers, image) {
-        WriteAnswer::Done(n) => n as u64,
-        WriteAnswer::Length => 3 << 32,
-        WriteAnswer::Title(at) => (4 << 32) | (at as u64),
-        WriteAnswer::Room => 6 << 32,
+        WriteAnswer::Done(n) => packed(0, n, 0),
+        WriteAnswer::Length => packed(3, 0, 0),
+        WriteAnswer::Title(at) => packed(4, at, 0),
+        WriteAnswer::Room => packed(6, 0, 0),
     }
 }
 
@@ -64,11 +83,13 @@ pub extern "C" fn image_read(
     title: &mut [u8],
     numbers: &mut [u16],
     flips: &mut [u8],
-) -> u64 {
+) -> u64
+    ensures { λ r. ⌜ ((a : ReadAnswer) × Read (now (image .entry)) (now (title .entry)) (now (numbers .entry)) (now (flips .entry)) a (now (title .exit)) (now (numbers .exit)) (now (flips .exit)) × (r ≡ readGives a)) ⌝ }
+{
     match card::read(image, title, numbers, flips) {
-        ReadAnswer::Done { title, grids } => (title as u64) | ((grids as u64) << 16),
-        ReadAnswer::Length => 3 << 32,
-        ReadAnswer::Broken(at) => (4 << 32) | (at as u64),
-        ReadAnswer::Room => 6 << 32,
+        ReadAnswer::Done { title, grids } => packed(0, title, grids),
+        ReadAnswer::Length => packed(3, 0, 0),
+        ReadAnswer::Broken(at) => packed(4, at, 0),
+        ReadAnswer::Room => packed(6, 0, 0),
     }
 }

@@ -13,27 +13,15 @@ use Rattle.words.proofs.Lists.{partly, partly-at, partly-step}
 use Rattle.codes.specs.Verdict.{Verdict, clean, mended, lost, tie, flipsOf, verdict, repaired, scrubbed}
 use Rattle.codes.specs.Tally.{isClean, isMended, isLost}
 use Rattle.codes.proofs.Promises.{clean-word}
-use Rattle.codes.proofs.Tally.{clean-of, sum-bound, sum-step, scrubbed-lt, few-flips}
-use Rattle.grid.specs.Answer.{means}
-use Rattle.grid.specs.Calls.{Judged, Decoded}
+use Rattle.codes.proofs.Tally.{clean-of, sum-bound, sum-step, few-flips}
+use Rattle.grid.specs.Calls.{Judged}
 use Rattle.grid.specs.Code.{gridCode}
-use Rattle.grid.specs.declared.Answer.{Answer}
 use Rattle.grid.proofs.Promises as grid
 use Rattle.page.specs.Calls.{tallyOf}
 use Rattle.page.specs.Steps.{counted, Roomy}
 use Rattle.page.specs.declared.Tally.{Tally}
 
 -- ---- one grid
-
--- the grid of a number, decoded, and its number again
-pub decoded-verdict : (w : ℕ) (rows : List ℕ) (a : Answer) → w < 2 ^ 64 → rows ≡ fields 8 8 w → Decoded rows a → means (a .verdict) ≡ verdict gridCode w
-decoded-verdict w rows a l e d = d .answer ∙ ap (verdict gridCode) (ap (joined 8) e ∙ joined-fields 8 8 w l)
-
-pub decoded-number : (w n : ℕ) (rows : List ℕ) (a : Answer) → w < 2 ^ 64 → rows ≡ fields 8 8 w → Decoded rows a → n ≡ joined 8 (a .grid .rows)
-    → n ≡ scrubbed gridCode w
-decoded-number w n rows a l e d p =
-    p ∙ ap (joined 8) (d .repaired ∙ ap (λ (x : ℕ). fields 8 8 (scrubbed gridCode x)) (ap (joined 8) e ∙ joined-fields 8 8 w l))
-    ∙ joined-fields 8 8 (scrubbed gridCode w) (scrubbed-lt gridCode (grid.promised .verdicts) (2 ^ 64) (grid.promised .constants .fits) w l)
 
 -- a clean grid stays as it is, and counts as any clean one
 pub decoded-clean : (w : ℕ) (rows : List ℕ) → w < 2 ^ 64 → rows ≡ fields 8 8 w → Judged rows true

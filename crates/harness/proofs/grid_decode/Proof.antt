@@ -1,35 +1,84 @@
--- `harness::grid_decode` is safe and ends: the three slices keep their one length. Assumes nothing.
-use mathlib.Core.Path.{_≡_, refl}
-use Prim.Native.Nat.{_-_, _≤_}
-use lib.ListN.{length, length-set}
+-- `harness::grid_decode` meets its contract: word after word. Assumes nothing.
+use mathlib.Core.Path.{_≡_, refl, sym, ap, _∙_}
+use mathlib.Core.List.{map}
+use Prim.Native.Nat.{ℕ, _-_, _≤_, _<_}
+use native.Mathlib.Omega.{arith}
+use lib.ListN.{length, getD, set, take, length-set, length-map}
+use lib.Seq.{take-all}
+use denote.Ref.{now}
+use Rattle.words.specs.Bytes.{laid}
+use Rattle.words.proofs.Bytes.{laid-none, laid-all}
+use Rattle.words.proofs.Turns.{map-turn}
+use Rattle.codes.specs.Verdict.{verdict, scrubbed}
+use Rattle.grid.specs.Code.{gridCode}
+use Rattle.grid.proofs.Numbers.{decoded-verdict, decoded-number}
+use Rattle.harness.specs.Exports.{packed, decodes, stays}
 use borrow.Author.Needs.{needs}
 use Rattle.harness.proofs.grid_decode.Statement.{statement}
 use Rattle.harness.proofs.grid_decode.Tie as tie
 
+abbrev shown : ℕ → ℕ
+shown w = packed (verdict gridCode w)
+
+abbrev put-right : ℕ → ℕ
+put-right w = scrubbed gridCode w
+
 abbrev Inv-loop : tie.InvT-loop
 Inv-loop words verdicts₀ repaired₀ n i₀ verdicts repaired i =
-    (i ≤ n) × (length verdicts ≡ length verdicts₀) × (length repaired ≡ length repaired₀)
+    (i ≤ n) × (verdicts ≡ laid (take i (map shown words)) verdicts₀) × (length verdicts ≡ length verdicts₀)
+    × (repaired ≡ laid (take i (map put-right words)) repaired₀) × (length repaired ≡ length repaired₀)
 
 abbrev μ-loop : tie.MeasureT-loop
 μ-loop words verdicts₀ repaired₀ n i₀ verdicts repaired i = n - i
 
-loop-holds : tie.Need-loop-holds Inv-loop μ-loop
-loop-holds c = (search needs, refl, refl)
+returns : tie.Need-returns Inv-loop μ-loop
+returns c = stays (λ a. c .if1 .taken (a .0)) refl refl
+
+returns-2 : tie.Need-returns-2 Inv-loop μ-loop
+returns-2 c = stays (λ a. c .if2 .taken (a .1)) refl refl
 
 loop-again : tie.Need-loop-again Inv-loop μ-loop
 loop-again c =
     let l = c .before .before .before .before .before .before .before .loop in
-    (search needs, simp length-set (l .inv .1), simp length-set (l .inv .2))
+    let s = c .before .before .before .before .before .before .before .before .before .before .before .before .before in
+    let ws = now (s .args .words) in
+    let w = getD ws (l .i) 0 in
+    let of-number = c .before .before .before .before .of-number in
+    let rows = of-number .result .rows in
+    let decode = c .before .before .before .decode in
+    let packs = c .before .packed in
+    let more : l .i < length ws = omega arith in
+    let small = c .before .before .before .before .before .before .before .before .before .before .before .before .shared-slice-known in
+    let fits = small .given (l .i) .fits in
+    let v = decoded-verdict w rows (decode .result) fits (of-number .ensures .answer) (decode .ensures) in
+    let n =
+    decoded-number w (c .number .result) rows (decode .result) fits (of-number .ensures .answer) (decode .ensures) (c .number .ensures .answer) in
+    let here = map-turn shown ws (now (s .args .verdicts)) (l .i) (packs .result) more (omega arith) (packs .ensures ∙ ap packed v) in
+    let there = map-turn put-right ws (now (s .args .repaired)) (l .i) (c .number .result) more (omega arith) n in (
+      omega arith,
+      ap (λ t. set t (l .i) (packs .result)) (l .inv .1) ∙ here,
+      length-set (l .verdicts) (l .i) (packs .result) ∙ l .inv .2,
+      ap (λ t. set t (l .i) (c .number .result)) (l .inv .3) ∙ there,
+      length-set (l .repaired) (l .i) (c .number .result) ∙ l .inv .4,
+    )
 
-same-length : tie.Need-same-length Inv-loop μ-loop
-same-length c = c .before .loop .inv .1
-
-same-length-2 : tie.Need-same-length-2 Inv-loop μ-loop
-same-length-2 c = c .before .loop .inv .2
+returns-3 : tie.Need-returns-3 Inv-loop μ-loop
+returns-3 c =
+    let l = c .before .loop in
+    let a = c .before .before .before .before .before .before .before .args in
+    let ws = now (a .words) in
+    let vs : length (now (a .verdicts)) ≡ length ws = omega arith in
+    let rs : length (now (a .repaired)) ≡ length ws = omega arith in
+    decodes (vs, rs)
+    (l .inv .1 ∙ ap (λ b. laid b (now (a .verdicts))) (take-all (l .i) (map shown ws) (omega (arith, length-map ws shown)))
+    ∙ laid-all (map shown ws) (now (a .verdicts)) (length-map ws shown ∙ sym vs))
+    (l .inv .3 ∙ ap (λ b. laid b (now (a .repaired))) (take-all (l .i) (map put-right ws) (omega (arith, length-map ws put-right)))
+    ∙ laid-all (map put-right ws) (now (a .repaired)) (length-map ws put-right ∙ sym rs))
 
 pub grid-decode-spec : {M : Type 1} → statement M
 grid-decode-spec =
     tie.close
-    (tie.spec Inv-loop μ-loop (λ c. search needs) (λ c. search needs) loop-holds (λ c. search needs) (λ c. search needs) (λ c κs. search needs)
-    (λ c κs. search needs) (λ c κs. search needs) (λ c. search needs) (λ c. search needs) (λ c κs. search needs) (λ c. search needs)
-    (λ c. search needs) (λ c. search needs) (λ c. search needs) loop-again same-length same-length-2 (λ c. search needs))
+    (tie.spec Inv-loop μ-loop returns returns-2 (λ c. (search needs, laid-none _, refl, laid-none _, refl)) (λ c. search needs)
+    (λ c. search needs) (λ c κs. search needs) (λ c κs. search needs) (λ c κs. search needs) (λ c. search needs) (λ c. search needs)
+    (λ c κs. search needs) (λ c. search needs) (λ c. search needs) (λ c. search needs) (λ c. search needs) loop-again
+    (λ c. c .before .loop .inv .2) (λ c. c .before .loop .inv .4) returns-3)

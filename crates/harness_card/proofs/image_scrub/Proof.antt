@@ -1,44 +1,53 @@
--- `harness_card::image_scrub` is safe: `tallies` has ten places, and keeps them. Assumes nothing.
+-- `harness_card::image_scrub` meets its contract: ten stores behind the scrub. Assumes nothing.
+use mathlib.Core.Path.{_≡_, refl, sym, ap, _∙_}
+use mathlib.Core.List.{[], _∷_}
 use native.Mathlib.Omega.{arith}
-use lib.ListN.{length-set}
+use lib.ListN.{length, length-set}
+use denote.Ref.{now}
+use Rattle.words.proofs.Turns.{stored}
+use Rattle.harness_card.specs.Exports.{scrubGives, shown, scrubs, stays}
 use borrow.Author.Needs.{needs}
 use Rattle.harness_card.proofs.image_scrub.Statement.{statement}
 use Rattle.harness_card.proofs.image_scrub.Tie as tie
 
-slice-write-tallies-2 : tie.Need-slice-write-tallies-2
-slice-write-tallies-2 c = simp length-set (omega arith)
+returns : tie.Need-returns
+returns c = stays (c .before .if1 .taken) (c .packed .ensures) refl refl
 
-slice-write-tallies-3 : tie.Need-slice-write-tallies-3
-slice-write-tallies-3 c = simp length-set (omega arith)
+returns-2 : tie.Need-returns-2
+returns-2 c =
+    let a = c .before .before .before .before .before .before .before .before .before .before .before .before .before .args in
+    let s = c .before .before .before .before .before .before .before .before .scrub in
+    let is = c .before .before .before .before .t .given in
+    let ten : length (now (a .tallies)) ≡ 10 = omega arith in
+    let g = is .0 .0 .grids in
+    let b = is .0 .0 .blocks in
+    scrubs ten (s .result) (s .ensures) (c .packed2 .ensures ∙ sym (ap scrubGives (is .1)))
+    (stored (g .grids ∷ g .clean ∷ g .mended ∷ g .lost ∷ g .flips ∷ b .blocks ∷ b .clean ∷ b .mended ∷ b .lost ∷ b .flips ∷ [])
+    (now (a .tallies)) (omega arith)
+    ∙ sym (ap (λ r. shown r (now (a .tallies))) (is .1)))
 
-slice-write-tallies-4 : tie.Need-slice-write-tallies-4
-slice-write-tallies-4 c = simp length-set (omega arith)
+returns-3 : tie.Need-returns-3
+returns-3 c =
+    let a = c .before .before .before .before .before .before .before .before .before .before .args in
+    let s = c .before .before .before .before .before .scrub in
+    let is = c .before .enum-told .given in
+    let ten : length (now (a .tallies)) ≡ 10 = omega arith in
+    scrubs ten (s .result) (s .ensures) (c .packed3 .ensures ∙ sym (ap scrubGives (is .1))) (sym (ap (λ r. shown r (now (a .tallies))) (is .1)))
 
-slice-write-tallies-5 : tie.Need-slice-write-tallies-5
-slice-write-tallies-5 c = simp length-set (omega arith)
-
-slice-write-tallies-6 : tie.Need-slice-write-tallies-6
-slice-write-tallies-6 c = simp length-set (omega arith)
-
-slice-write-tallies-7 : tie.Need-slice-write-tallies-7
-slice-write-tallies-7 c = simp length-set (omega arith)
-
-slice-write-tallies-8 : tie.Need-slice-write-tallies-8
-slice-write-tallies-8 c = simp length-set (omega arith)
-
-slice-write-tallies-9 : tie.Need-slice-write-tallies-9
-slice-write-tallies-9 c = simp length-set (omega arith)
-
-slice-write-tallies-10 : tie.Need-slice-write-tallies-10
-slice-write-tallies-10 c = simp length-set (omega arith)
-
-same-length-2 : tie.Need-same-length-2
-same-length-2 c = simp length-set
+returns-4 : tie.Need-returns-4
+returns-4 c =
+    let a = c .before .before .before .before .before .before .before .before .before .before .before .args in
+    let s = c .before .before .before .before .before .before .scrub in
+    let is = c .before .before .at .given in
+    let ten : length (now (a .tallies)) ≡ 10 = omega arith in
+    scrubs ten (s .result) (s .ensures) (c .packed4 .ensures ∙ sym (ap scrubGives (is .1))) (sym (ap (λ r. shown r (now (a .tallies))) (is .1)))
 
 pub image-scrub-spec : {M : Type 1} → statement M
 image-scrub-spec =
     tie.close
-    (tie.spec (λ c. search needs) (λ c κs. search needs) (λ c. search needs) (λ c. search needs) slice-write-tallies-2 slice-write-tallies-3
-    slice-write-tallies-4 slice-write-tallies-5 slice-write-tallies-6 slice-write-tallies-7 slice-write-tallies-8 slice-write-tallies-9
-    slice-write-tallies-10 (λ c. search needs) (λ c. search needs) (λ c. search needs) same-length-2 (λ c. search needs) (λ c. search needs)
-    (λ c. search needs) (λ c. search needs) (λ c. search needs))
+    (tie.spec (λ c κs. search needs) returns (λ c κs. search needs) (λ c. search needs) (λ c. search needs)
+    (λ c. simp length-set (omega arith)) (λ c. simp length-set (omega arith)) (λ c. simp length-set (omega arith))
+    (λ c. simp length-set (omega arith)) (λ c. simp length-set (omega arith)) (λ c. simp length-set (omega arith))
+    (λ c. simp length-set (omega arith)) (λ c. simp length-set (omega arith)) (λ c. simp length-set (omega arith)) (λ c κs. search needs)
+    (λ c. search needs) (λ c κs. search needs) (λ c. search needs) (λ c κs. search needs) (λ c. search needs)
+    (λ c. simp length-set (omega arith)) returns-2 (λ c. search needs) returns-3 (λ c. search needs) returns-4)

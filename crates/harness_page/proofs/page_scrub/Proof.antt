@@ -1,25 +1,40 @@
--- `harness_page::page_scrub` is safe: `tally` has five places, and keeps them. Assumes nothing.
+-- `harness_page::page_scrub` meets its contract: five stores behind the scrub. Assumes nothing.
+use mathlib.Core.Path.{_≡_, refl, sym, ap, _∙_}
+use mathlib.Core.List.{[], _∷_}
 use native.Mathlib.Omega.{arith}
-use lib.ListN.{length-set}
+use lib.ListN.{length, length-set}
+use denote.Ref.{now}
+use Rattle.words.proofs.Turns.{stored}
+use Rattle.page.specs.Calls.{numberOf}
+use Rattle.harness_page.specs.Exports.{shown, scrubs, stays}
 use borrow.Author.Needs.{needs}
 use Rattle.harness_page.proofs.page_scrub.Statement.{statement}
 use Rattle.harness_page.proofs.page_scrub.Tie as tie
 
-slice-write-tally-2 : tie.Need-slice-write-tally-2
-slice-write-tally-2 c = simp length-set (omega arith)
+returns : tie.Need-returns
+returns c = stays (c .if1 .taken) refl refl refl
 
-slice-write-tally-3 : tie.Need-slice-write-tally-3
-slice-write-tally-3 c = simp length-set (omega arith)
+returns-2 : tie.Need-returns-2
+returns-2 c =
+    let a = c .before .before .before .before .before .before .before .before .before .before .args in
+    let s = c .before .before .before .before .before .scrub in
+    let t = c .before .t .given .0 .0 in
+    let five : length (now (a .tally)) ≡ 5 = omega arith in
+    scrubs five (s .result) (s .ensures) (sym (ap numberOf (c .before .t .given .1)))
+    (stored (t .grids ∷ t .clean ∷ t .mended ∷ t .lost ∷ t .flips ∷ []) (now (a .tally)) (omega arith)
+    ∙ sym (ap (λ r. shown r (now (a .tally))) (c .before .t .given .1)))
 
-slice-write-tally-4 : tie.Need-slice-write-tally-4
-slice-write-tally-4 c = simp length-set (omega arith)
-
-slice-write-tally-5 : tie.Need-slice-write-tally-5
-slice-write-tally-5 c = simp length-set (omega arith)
+returns-3 : tie.Need-returns-3
+returns-3 c =
+    let a = c .before .before .before .before .before .before .before .before .before .args in
+    let s = c .before .before .before .before .scrub in
+    let five : length (now (a .tally)) ≡ 5 = omega arith in
+    scrubs five (s .result) (s .ensures) (sym (ap numberOf (c .enum-told .given .1)))
+    (sym (ap (λ r. shown r (now (a .tally))) (c .enum-told .given .1)))
 
 pub page-scrub-spec : {M : Type 1} → statement M
 page-scrub-spec =
     tie.close
-    (tie.spec (λ c. search needs) (λ c κs. search needs) (λ c. search needs) (λ c. search needs) slice-write-tally-2 slice-write-tally-3
-    slice-write-tally-4 slice-write-tally-5 (λ c. search needs) (λ c. search needs) (λ c. search needs) (λ c. search needs) (λ c. search needs)
-    (λ c. search needs))
+    (tie.spec returns (λ c κs. search needs) (λ c. search needs) (λ c. search needs) (λ c. simp length-set (omega arith))
+    (λ c. simp length-set (omega arith)) (λ c. simp length-set (omega arith)) (λ c. simp length-set (omega arith)) (λ c. search needs)
+    (λ c. search needs) (λ c. search needs) returns-2 (λ c. search needs) returns-3)

@@ -10,10 +10,10 @@ use Rattle.words.specs.Fields.{joined}
 use Rattle.words.specs.Bytes.{wordsIn, laid}
 use Rattle.words.proofs.Lists.{length-part}
 use Rattle.words.proofs.Bytes.{length-words, laid-none}
+use Rattle.words.proofs.Turns.{word-there, map-turn}
 use Rattle.codes.specs.Verdict.{verdict}
 use Rattle.grid.specs.Code.{gridCode}
 use Rattle.card.specs.Answer.{dataOf, flipsShown}
-use Rattle.card.proofs.Turns.{word-there, map-turn}
 use borrow.Author.Needs.{needs}
 use Rattle.card.proofs.reading.grids.Statement.{statement}
 use Rattle.card.proofs.reading.grids.Tie as tie

@@ -7,7 +7,7 @@ use lib.Seq.{take-all}
 use denote.Ref.{now}
 use Rattle.words.specs.Bytes.{laid}
 use Rattle.words.proofs.Bytes.{laid-none}
-use Rattle.card.proofs.Turns.{place-turn}
+use Rattle.words.proofs.Turns.{place-turn}
 use Rattle.card.proofs.values.copy.Statement.{statement}
 use Rattle.card.proofs.values.copy.Tie as tie
 

@@ -1,6 +1,6 @@
 -- `card::values::grid_at` meets its contract. Assumes nothing.
 use denote.Ref.{now}
-use Rattle.card.proofs.Turns.{first}
+use Rattle.words.proofs.Turns.{first}
 use borrow.Author.Needs.{needs}
 use Rattle.card.proofs.values.grid_at.Statement.{statement}
 use Rattle.card.proofs.values.grid_at.Tie as tie

@@ -9,7 +9,7 @@ use Rattle.words.specs.Fields.{joined}
 use Rattle.words.specs.Bytes.{wordsIn, laid}
 use Rattle.words.proofs.Lists.{length-part}
 use Rattle.words.proofs.Bytes.{length-words, laid-none, laid-all}
-use Rattle.card.proofs.Turns.{word-there, place-turn}
+use Rattle.words.proofs.Turns.{word-there, place-turn}
 use borrow.Author.Needs.{needs}
 use Rattle.card.proofs.values.grids.Statement.{statement}
 use Rattle.card.proofs.values.grids.Tie as tie

@@ -5,7 +5,7 @@ use lib.ListN.{length, length-set}
 use lib.Seq.{sets}
 use denote.Ref.{now}
 use Rattle.words.proofs.Fields.{listed-getD}
-use Rattle.card.proofs.Turns.{stored}
+use Rattle.words.proofs.Turns.{stored}
 use borrow.Author.Needs.{needs}
 use Rattle.card.proofs.values.put_grid.Statement.{statement}
 use Rattle.card.proofs.values.put_grid.Tie as tie

@@ -8,7 +8,7 @@ use denote.Ref.{now}
 use Rattle.words.specs.Bytes.{bytesOf, laid}
 use Rattle.words.proofs.Lists.{length-part}
 use Rattle.words.proofs.Bytes.{length-bytes, laid-all}
-use Rattle.card.proofs.Turns.{no-words, word-turn, length-turn}
+use Rattle.words.proofs.Turns.{no-words, word-turn, length-turn}
 use borrow.Author.Needs.{needs}
 use Rattle.card.proofs.values.put_grids.Statement.{statement}
 use Rattle.card.proofs.values.put_grids.Tie as tie

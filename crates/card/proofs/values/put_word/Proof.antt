@@ -1,7 +1,7 @@
 -- `card::values::put_word` meets its contract: two stores. Assumes nothing.
 use denote.Ref.{now}
 use Rattle.words.specs.Fields.{fields}
-use Rattle.card.proofs.Turns.{stored}
+use Rattle.words.proofs.Turns.{stored}
 use borrow.Author.Needs.{needs}
 use Rattle.card.proofs.values.put_word.Statement.{statement}
 use Rattle.card.proofs.values.put_word.Tie as tie

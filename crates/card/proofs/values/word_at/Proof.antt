@@ -5,7 +5,7 @@ use native.Mathlib.Omega.{arith}
 use lib.ListN.{getD}
 use denote.Ref.{now}
 use Rattle.words.specs.Fields.{joined}
-use Rattle.card.proofs.Turns.{first}
+use Rattle.words.proofs.Turns.{first}
 use borrow.Author.Needs.{needs}
 use Rattle.card.proofs.values.word_at.Statement.{statement}
 use Rattle.card.proofs.values.word_at.Tie as tie

@@ -8,7 +8,7 @@ use denote.Ref.{now}
 use Rattle.words.specs.Bytes.{wordsIn, laid}
 use Rattle.words.proofs.Lists.{length-part}
 use Rattle.words.proofs.Bytes.{length-words, laid-none, laid-all}
-use Rattle.card.proofs.Turns.{word-there, place-turn}
+use Rattle.words.proofs.Turns.{word-there, place-turn}
 use borrow.Author.Needs.{needs}
 use Rattle.card.proofs.values.words.Statement.{statement}
 use Rattle.card.proofs.values.words.Tie as tie

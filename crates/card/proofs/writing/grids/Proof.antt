@@ -9,8 +9,8 @@ use denote.Ref.{now}
 use Rattle.words.specs.Fields.{fields}
 use Rattle.words.specs.Bytes.{bytesOf, laid}
 use Rattle.words.proofs.Lists.{length-part, map-getD}
+use Rattle.words.proofs.Turns.{no-words, word-turn, length-turn}
 use Rattle.grid.specs.Code.{codeword}
-use Rattle.card.proofs.Turns.{no-words, word-turn, length-turn}
 use borrow.Author.Needs.{needs}
 use Rattle.card.proofs.writing.grids.Statement.{statement}
 use Rattle.card.proofs.writing.grids.Tie as tie

@@ -6,8 +6,8 @@ use native.Mathlib.Omega.{arith}
 use lib.ListN.{length-set}
 use lib.Seq.{sets}
 use denote.Ref.{now}
+use Rattle.words.proofs.Turns.{stored}
 use Rattle.image.specs.Card.{head}
-use Rattle.card.proofs.Turns.{stored}
 use borrow.Author.Needs.{needs}
 use Rattle.card.proofs.writing.head.Statement.{statement}
 use Rattle.card.proofs.writing.head.Tie as tie

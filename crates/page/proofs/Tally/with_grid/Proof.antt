@@ -2,7 +2,8 @@
 use mathlib.Core.Path.{sym, ap, _∙_, subst}
 use Rattle.grid.specs.Calls.{Judged}
 use Rattle.page.specs.Steps.{counted, Roomy}
-use Rattle.page.proofs.Laws.{decoded-clean, decoded-verdict, decoded-number}
+use Rattle.grid.proofs.Numbers.{decoded-verdict, decoded-number}
+use Rattle.page.proofs.Laws.{decoded-clean}
 use borrow.Author.Needs.{needs}
 use Rattle.page.proofs.Tally.with_grid.Statement.{statement}
 use Rattle.page.proofs.Tally.with_grid.Tie as tie

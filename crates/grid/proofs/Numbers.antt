@@ -1,0 +1,23 @@
+-- The grid of a number, decoded, and its number again. Assumes nothing.
+use mathlib.Core.Path.{_≡_, ap, _∙_}
+use mathlib.Core.List.{List}
+use Prim.Native.Nat.{ℕ, _^_, _<_}
+use Rattle.words.specs.Fields.{fields, joined}
+use Rattle.words.proofs.Fields.{joined-fields}
+use Rattle.codes.specs.Verdict.{verdict, scrubbed}
+use Rattle.codes.proofs.Tally.{scrubbed-lt}
+use Rattle.grid.specs.Code.{gridCode}
+use Rattle.grid.specs.Answer.{means}
+use Rattle.grid.specs.Calls.{Decoded}
+use Rattle.grid.specs.declared.Answer.{Answer}
+use Rattle.grid.proofs.Distance.{codeword-lt}
+use Rattle.grid.proofs.Promises.{promised}
+
+pub decoded-verdict : (w : ℕ) (rows : List ℕ) (a : Answer) → w < 2 ^ 64 → rows ≡ fields 8 8 w → Decoded rows a → means (a .verdict) ≡ verdict gridCode w
+decoded-verdict w rows a l e d = d .answer ∙ ap (verdict gridCode) (ap (joined 8) e ∙ joined-fields 8 8 w l)
+
+pub decoded-number : (w n : ℕ) (rows : List ℕ) (a : Answer) → w < 2 ^ 64 → rows ≡ fields 8 8 w → Decoded rows a → n ≡ joined 8 (a .grid .rows)
+    → n ≡ scrubbed gridCode w
+decoded-number w n rows a l e d p =
+    p ∙ ap (joined 8) (d .repaired ∙ ap (λ (x : ℕ). fields 8 8 (scrubbed gridCode x)) (ap (joined 8) e ∙ joined-fields 8 8 w l))
+    ∙ joined-fields 8 8 (scrubbed gridCode w) (scrubbed-lt gridCode (promised .verdicts) (2 ^ 64) codeword-lt w l)

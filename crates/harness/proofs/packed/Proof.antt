@@ -1,0 +1,16 @@
+-- `harness::packed` meets its contract. Assumes nothing.
+use mathlib.Core.Path.{sym, ap}
+use Rattle.grid.specs.Answer.{means}
+use Rattle.harness.specs.Exports.{packed}
+use borrow.Author.Needs.{needs}
+use Rattle.harness.proofs.packed.Statement.{statement}
+use Rattle.harness.proofs.packed.Tie as tie
+
+returns-2 : tie.Need-returns-2
+returns-2 c = sym (ap (λ v. packed (means v)) (c .before .verdict2 .given .1))
+
+pub packed-spec : {M : Type 1} → statement M
+packed-spec =
+    tie.close
+    (tie.spec (λ c. search needs) (λ c. search needs) (λ c. search needs) (λ c. search needs) (λ c. search needs) (λ c. search needs)
+    (λ c. search needs) (λ c. search needs) (λ c. search needs) (λ c. search needs) returns-2 (λ c. search needs) (λ c. search needs))
