@@ -77,15 +77,6 @@ static void scrub_again(const struct state *once)
     compare_states(&again, &twice, &expected, number);
 }
 
-/* what is flipped: in the number returned, and in the first bytes of the image */
-static void flip(struct state *s, uint64_t flips[2])
-{
-    s->returned ^= flips[0];
-    for (unsigned k = 0; k < 8 && flips[1] != 0; k++)
-        image_in(s)[k] ^= (uint8_t)(flips[1] >> 8 * k);
-    flips[0] = flips[1] = 0;
-}
-
 static void scrub(struct test *t, const struct state *lent)
 {
     static struct state library, second, plainly;

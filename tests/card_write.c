@@ -20,14 +20,6 @@ static void lend(struct state *s, uint64_t title, uint64_t numbers, uint64_t roo
         title_in(s)[k] = (uint8_t)(0x20 + draw() % 95);
 }
 
-static void flip(struct state *s, uint64_t flips[2])
-{
-    s->returned ^= flips[0];
-    for (unsigned k = 0; k < 8 && flips[1] != 0; k++)
-        image_in(s)[k] ^= (uint8_t)(flips[1] >> 8 * k);
-    flips[0] = flips[1] = 0;
-}
-
 /* both write; and what is to be returned is known beforehand */
 static void try_write(struct test *t, const struct state *lent, uint64_t expected)
 {

@@ -65,3 +65,12 @@ static inline void compare_states(struct test *t, const struct state *a, const s
     compare(t, a->returned, b->returned, at);
     compare(t, memcmp(a->room, b->room, a->used) == 0, 1, at);
 }
+
+/* what is flipped, once: in the number returned, and in the first bytes of the image */
+static inline void flip(struct state *s, uint64_t flips[2])
+{
+    s->returned ^= flips[0];
+    for (unsigned k = 0; k < 8 && flips[1] != 0; k++)
+        image_in(s)[k] ^= (uint8_t)(flips[1] >> 8 * k);
+    flips[0] = flips[1] = 0;
+}

@@ -138,9 +138,5 @@ part-twice : (p : Part) → scrubbedPart (scrubbedPart p) ≡ scrubbedPart p
 part-twice (grids ws) = ap grids (map-twice (scrubbed gridCode) (laws .again) ws)
 part-twice (block w) = ap block (block-laws .again w)
 
-parts-twice : (ps : List Part) → map scrubbedPart (map scrubbedPart ps) ≡ map scrubbedPart ps
-parts-twice [] = refl
-parts-twice (p ∷ ps) = ap₂ {C = List Part} (λ (p : Part) (ps : List Part). p ∷ ps) (part-twice p) (parts-twice ps)
-
 pub twice : (c : Card) → scrubbedCard (scrubbedCard c) ≡ scrubbedCard c
-twice c = λ i. record { title = c .title; parts = parts-twice (c .parts) i }
+twice c = λ i. record { title = c .title; parts = map-twice scrubbedPart part-twice (c .parts) i }

@@ -15,7 +15,7 @@ use Rattle.image.specs.declared.Outcome.{Outcome}
 use Rattle.image.specs.declared.Outcome.the-variants.{Sound, Length, Broken}
 use Rattle.image.specs.Fields.{value, fieldOf}
 use Rattle.image.specs.Card.{Part, Card, gridsIn, Found, sound, broken, walk, named, titled, cardOf, head, partsBytes, frontOf, imageOf}
-use Rattle.image.specs.Calls.{byFound, judged, counts, Checked, numberOf, titleIn, Named}
+use Rattle.image.specs.Calls.{byFound, judged, counts, Checked, numberOf, placeOf}
 use Rattle.image.proofs.Fields.{Stands, known, length-value}
 use Rattle.image.proofs.Walking.{card-titled}
 use Rattle.image.proofs.Shape.{split}
@@ -39,14 +39,9 @@ module _ (s : List ℕ) where
   pub broken-at : (at : ℕ) → Checked s (Broken at) → (leb (length s) 32768 ≡ true) × (cardOf s ≡ broken at)
   broken-at at h = go (leb (length s) 32768) (cardOf s) (h .answer)
     where
-      place : Outcome → ℕ
-      place (Sound g b) = 0
-      place Length = 0
-      place (Broken k) = k
-
       go : (b : Bool) (x : Found Card) → Broken at ≡ shown b x → (b ≡ true) × (x ≡ broken at)
       go true (sound c) e = absurd (omega (arith, ap numberOf e))
-      go true (broken k) e = (refl, ap broken (sym (ap place e)))
+      go true (broken k) e = (refl, ap broken (sym (ap placeOf e)))
       go false x e = absurd (omega (arith, ap numberOf e))
 
   -- the card that was found
@@ -115,10 +110,6 @@ module _ (s : List ℕ) (c : Card) (i : Inside s c) where
 
   pub title-long : length (c .title) ≡ i .length-is
   title-long = ap length (i .title-is) ∙ length-value s (omega (arith, stands .size-is, stands .room)) ∙ stands .size-is
-
-  -- what `image::title` gives
-  pub title-given : (r : List ℕ) → Named s r → r ≡ c .title
-  title-given r h = h .answer ∙ ap (titleIn s) (i .titled-so) ∙ sym (i .title-is)
 
   pub walks : length s ≤ 32768 → (k : ℕ) → k ≡ 3 + i .length-is → Walks (drop k s)
   walks l k e =

@@ -38,7 +38,7 @@ use Rattle.card.proofs.Scrubs.{block-laws}
 use Rattle.card.proofs.Writes.{is-long, is-bad, is-short, is-done}
 use Rattle.card.proofs.Judging.{judged-long, judged-as}
 use Rattle.card.proofs.Again.{same-frame, second, still-proper, same-length, twice}
-use Rattle.card.proofs.Switches.{put-right, none-switched, no-flips, length-on, lengths, proper-on, few, found-on, read-on}
+use Rattle.card.proofs.Switches.{put-right, none-switched, no-flips, length-on, lengths, few, found-on, read-on}
 
 -- ---- scrub
 

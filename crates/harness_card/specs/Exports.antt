@@ -2,8 +2,10 @@
 use mathlib.Core.Path.{_≡_}
 use mathlib.Core.Logic.{_≢_}
 use mathlib.Core.List.{List, [], _∷_}
-use Prim.Native.Nat.{ℕ, _+_, _*_, _%_}
+use Prim.Native.Nat.{ℕ, _+_, _*_}
+use lib.Dec.{leb}
 use lib.ListN.{length}
+use Rattle.words.specs.Word.{choose}
 use Rattle.words.specs.Bytes.{laid}
 use Rattle.image.specs.declared.Outcome.{Outcome}
 use Rattle.image.specs.declared.Outcome.the-variants.{Sound, Length, Broken}
@@ -15,9 +17,13 @@ use Rattle.card.specs.declared.ReadAnswer.{ReadAnswer}
 use Rattle.card.specs.declared.ReadAnswer.the-variants.{Done as ReadDone, Length as ReadLength, Broken as ReadBroken, Room as ReadRoom}
 use Rattle.card.specs.Calls.{Scrubbed}
 
--- document 01's number from bit 32 on, and below it two numbers of 16 bits: no number of a card needs more
+-- a number in 16 bits; one that does not fit is shown as 65,535, which no right answer has
+abbrev pub short : ℕ → ℕ
+short n = choose (leb n 65535) n 65535
+
+-- document 01's number from bit 32 on, and below it two others
 abbrev pub packed : ℕ → ℕ → ℕ → ℕ
-packed number low high = number * 4294967296 + high % 65536 * 65536 + low % 65536
+packed number low high = number * 4294967296 + short high * 65536 + short low
 
 -- the grids and the blocks, or the place of a break
 abbrev pub checkGives : Outcome → ℕ

@@ -1,24 +1,34 @@
 // The calls on a card image, on plain numbers, for the tests and for counting instructions. No part of
 // the product. A crate of its own, so that the archives of the others stay small.
 ghost use mathlib.Core.Path.{_≡_};
-ghost use Prim.Native.Nat.{_<_};
+ghost use Prim.Native.Nat.{_≤_, _<_};
 ghost use Rattle.image.specs.Calls.{Checked};
 ghost use Rattle.image.specs.declared.Outcome.{Outcome};
 ghost use Rattle.card.specs.Calls.{Wrote, Read};
 ghost use Rattle.card.specs.declared.WriteAnswer.{WriteAnswer};
 ghost use Rattle.card.specs.declared.ReadAnswer.{ReadAnswer};
-ghost use Rattle.harness_card.specs.Exports.{packed, checkGives, writeGives, readGives, Exported};
+ghost use Rattle.harness_card.specs.Exports.{short, packed, checkGives, writeGives, readGives, Exported};
 use card::ReadAnswer;
 use card::ScrubAnswer;
 use card::WriteAnswer;
 use image::Outcome;
+
+// A number in 16 bits. One that does not fit is 65,535, which no right answer has.
+fn short(n: usize) -> u64
+    ensures { λ r. ⌜ (r ≡ short n) × (r ≤ 65535) ⌝ }
+{
+    if n > 65535 {
+        return 65535;
+    }
+    n as u64
+}
 
 // Document 01's number from bit 32 on. Below it stand the place of a break, or what the call gives.
 fn packed(number: u64, low: usize, high: usize) -> u64
     requires { ⌜ number < 256 ⌝ }
     ensures { λ r. ⌜ r ≡ packed number low high ⌝ }
 {
-    number * 4294967296 + ((high % 65536) as u64) * 65536 + ((low % 65536) as u64)
+    number * 4294967296 + short(high) * 65536 + short(low)
 }
 
 // The grids, and the blocks from bit 16 on.

@@ -50,9 +50,9 @@ set-same (x ∷ xs) zero = refl
 set-same (x ∷ xs) (suc i) = ap {B = List ℕ} (λ l. x ∷ l) (set-same xs i)
 
 -- mapped twice, where a second time changes nothing
-pub map-twice : (f : ℕ → ℕ) → ((x : ℕ) → f (f x) ≡ f x) → (xs : List ℕ) → map f (map f xs) ≡ map f xs
-map-twice f h [] = refl
-map-twice f h (x ∷ xs) = ap₂ {C = List ℕ} (λ (y : ℕ) (ys : List ℕ). y ∷ ys) (h x) (map-twice f h xs)
+pub map-twice : {A : Type 0} (f : A → A) → ((x : A) → f (f x) ≡ f x) → (xs : List A) → map f (map f xs) ≡ map f xs
+map-twice {A} f h [] = refl
+map-twice {A} f h (x ∷ xs) = ap₂ {C = List A} (λ (y : A) (ys : List A). y ∷ ys) (h x) (map-twice f h xs)
 
 -- the part of a list from k on, as a loan of it has it
 pub part-behind : (k : ℕ) (xs : List ℕ) → take (length xs - k) (drop k xs) ≡ drop k xs

@@ -9,9 +9,10 @@ use Rattle.words.specs.Bytes.{laid}
 use Rattle.words.proofs.Lists.{part-behind}
 use Rattle.image.specs.Card.{gridsIn, walk}
 use Rattle.image.specs.Calls.{Checked}
+use Rattle.image.proofs.Promises.{promised}
 use Rattle.card.specs.declared.ReadAnswer.the-variants.{Done}
 use Rattle.card.specs.Steps.{ReadsFields}
-use Rattle.card.proofs.Judging.{too-long, broken-at, whole, inside, stands, title-long, title-given, walks}
+use Rattle.card.proofs.Judging.{too-long, broken-at, whole, inside, stands, title-long, walks}
 use Rattle.card.proofs.Readings.{refused-3, refused-4, short-title, short-numbers, short-flips, all-read}
 use borrow.Author.Needs.{needs}
 use Rattle.card.proofs.read.Statement.{statement}
@@ -23,7 +24,7 @@ returns c =
     let s = now (st .args .image) in
     let w = whole s (c .before .before .before .grids .given .0 .0) _ (subst (Checked s) (c .before .before .before .grids .given .1) (c .before .before .before .before .before .check .ensures)) in
     let i = inside s (w .card) (w .is) in
-    let name = title-given s (w .card) i (now (c .before .title .result)) (c .before .title .ensures) in
+    let name = promised .title-given s (now (c .before .title .result)) (w .card) (w .is) (c .before .title .ensures) in
     short-title s (now (st .args .title)) (now (st .args .numbers)) (now (st .args .flips)) w (omega (arith, ap length name, c .if1 .taken))
 
 returns-2 : tie.Need-returns-2
@@ -32,7 +33,7 @@ returns-2 c =
     let s = now (st .args .image) in
     let w = whole s (c .before .before .before .before .grids .given .0 .0) _ (subst (Checked s) (c .before .before .before .before .grids .given .1) (c .before .before .before .before .before .before .check .ensures)) in
     let i = inside s (w .card) (w .is) in
-    let name = title-given s (w .card) i (now (c .before .before .title .result)) (c .before .before .title .ensures) in
+    let name = promised .title-given s (now (c .before .before .title .result)) (w .card) (w .is) (c .before .before .title .ensures) in
     short-numbers s (now (st .args .title)) (now (st .args .numbers)) (now (st .args .flips)) w (omega (arith, ap length name, c .before .if1 .left))
     (omega (arith, w .grids, c .if2 .taken))
 
@@ -42,7 +43,7 @@ returns-3 c =
     let s = now (st .args .image) in
     let w = whole s (c .before .before .before .before .before .grids .given .0 .0) _ (subst (Checked s) (c .before .before .before .before .before .grids .given .1) (c .before .before .before .before .before .before .before .check .ensures)) in
     let i = inside s (w .card) (w .is) in
-    let name = title-given s (w .card) i (now (c .before .before .before .title .result)) (c .before .before .before .title .ensures) in
+    let name = promised .title-given s (now (c .before .before .before .title .result)) (w .card) (w .is) (c .before .before .before .title .ensures) in
     short-flips s (now (st .args .title)) (now (st .args .numbers)) (now (st .args .flips)) w (omega (arith, ap length name, c .before .before .if1 .left))
     (omega (arith, w .grids, c .before .if2 .left)) (omega (arith, w .grids, c .if3 .taken))
 
@@ -52,7 +53,7 @@ room c =
     let s = now (st .args .image) in
     let w = whole s (c .before .before .before .before .before .before .before .before .before .grids .given .0 .0) _ (subst (Checked s) (c .before .before .before .before .before .before .before .before .before .grids .given .1) (c .before .before .before .before .before .before .before .before .before .before .before .check .ensures)) in
     let i = inside s (w .card) (w .is) in
-    let name = title-given s (w .card) i (now (c .before .before .before .before .before .before .before .title .result)) (c .before .before .before .before .before .before .before .title .ensures) in
+    let name = promised .title-given s (now (c .before .before .before .before .before .before .before .title .result)) (w .card) (w .is) (c .before .before .before .before .before .before .before .title .ensures) in
     omega (arith, ap length name, title-long s (w .card) i, stands s (w .card) i .room)
 
 fields-requires : tie.Need-fields-requires
@@ -61,7 +62,7 @@ fields-requires c κs =
     let s = now (st .args .image) in
     let w = whole s (c .before .before .before .before .before .before .before .before .before .before .before .before .grids .given .0 .0) _ (subst (Checked s) (c .before .before .before .before .before .before .before .before .before .before .before .before .grids .given .1) (c .before .before .before .before .before .before .before .before .before .before .before .before .before .before .check .ensures)) in
     let i = inside s (w .card) (w .is) in
-    let name = title-given s (w .card) i (now (c .before .before .before .before .before .before .before .before .before .before .title .result)) (c .before .before .before .before .before .before .before .before .before .before .title .ensures) in
+    let name = promised .title-given s (now (c .before .before .before .before .before .before .before .before .before .before .title .result)) (w .card) (w .is) (c .before .before .before .before .before .before .before .before .before .before .title .ensures) in
     let k = 3 + length (now (c .before .before .before .before .before .before .before .before .before .before .title .result)) in
     let end : k ≡ 3 + i .length-is = omega (arith, ap length name, title-long s (w .card) i) in
     let l = leb-true (length s) 32768 (w .within) in
@@ -95,7 +96,7 @@ returns-6 c =
     let w = whole s (c .before .before .before .before .before .before .before .before .before .before .before .before .before .before .before .before .before .grids .given .0 .0) _ (subst (Checked s) (c .before .before .before .before .before .before .before .before .before .before .before .before .before .before .before .before .before .grids .given .1) (c .before .before .before .before .before .before .before .before .before .before .before .before .before .before .before .before .before .before .before .check .ensures)) in
     let i = inside s (w .card) (w .is) in
     let title = c .before .before .before .before .before .before .before .before .before .before .before .before .before .before .before .title in
-    let name = title-given s (w .card) i (now (title .result)) (title .ensures) in
+    let name = promised .title-given s (now (title .result)) (w .card) (w .is) (title .ensures) in
     let k = 3 + length (now (title .result)) in
     let end : k ≡ 3 + i .length-is = omega (arith, ap length name, title-long s (w .card) i) in
     let found = ap (walk 16 (3 + i .length-is)) (part-behind k s ∙ ap (λ (k : ℕ). drop k s) end) ∙ i .found in

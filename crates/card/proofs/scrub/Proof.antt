@@ -9,10 +9,11 @@ use borrow.Author.Tests.{leb-true}
 use Rattle.words.proofs.Lists.{part-behind}
 use Rattle.image.specs.Card.{Card, walk, imageOf}
 use Rattle.image.specs.Calls.{Checked}
+use Rattle.image.proofs.Promises.{promised}
 use Rattle.card.specs.declared.ScrubAnswer.the-variants.{Done, Length, Broken}
 use Rattle.card.specs.Calls.{scrubbedCard, talliesOf}
 use Rattle.card.specs.Steps.{Walks}
-use Rattle.card.proofs.Judging.{too-long, broken-at, Whole, whole, judged-long, judged-as, Inside, inside, stands, title-long, title-given, walks, scrubbed-image}
+use Rattle.card.proofs.Judging.{too-long, broken-at, Whole, whole, judged-long, judged-as, Inside, inside, stands, title-long, walks, scrubbed-image}
 use borrow.Author.Needs.{needs}
 use Rattle.card.proofs.scrub.Statement.{statement}
 use Rattle.card.proofs.scrub.Tie as tie
@@ -26,7 +27,7 @@ room c =
     let s = now (c .before .before .before .before .before .before .before .args .image) in
     let w = whole s _ _ (subst (Checked s) (c .before .before .enum-told2 .given .1) (c .before .before .before .before .check .ensures)) in
     let i = inside s (w .card) (w .is) in
-    omega (arith, end-is s (now (c .title .result)) (_, w) i (title-given s (w .card) i (now (c .title .result)) (c .title .ensures)), stands s (w .card) i .room)
+    omega (arith, end-is s (now (c .title .result)) (_, w) i (promised .title-given s (now (c .title .result)) (w .card) (w .is) (c .title .ensures)), stands s (w .card) i .room)
 
 fields-requires : tie.Need-fields-requires
 fields-requires c κs =
@@ -36,7 +37,7 @@ fields-requires c κs =
     let title = c .before .title in
     let k = 3 + length (now (title .result)) in
     subst Walks (sym (part-behind k s)) (walks s (w .card) i (leb-true (length s) 32768 (w .within)) k
-    (end-is s (now (title .result)) (_, w) i (title-given s (w .card) i (now (title .result)) (title .ensures))))
+    (end-is s (now (title .result)) (_, w) i (promised .title-given s (now (title .result)) (w .card) (w .is) (title .ensures))))
 
 returns : tie.Need-returns
 returns c =
@@ -64,7 +65,7 @@ returns-3 c =
     let title = c .before .before .before .before .title in
     let fields = c .before .before .fields in
     let k = 3 + length (now (title .result)) in
-    let end = end-is s (now (title .result)) (_, w) i (title-given s (w .card) i (now (title .result)) (title .ensures)) in
+    let end = end-is s (now (title .result)) (_, w) i (promised .title-given s (now (title .result)) (w .card) (w .is) (title .ensures)) in
     let found = ap (walk 16 (3 + i .length-is)) (part-behind k s ∙ ap (λ (k : ℕ). drop k s) end) ∙ i .found in
     record {
       answer =
