@@ -4,9 +4,9 @@
    at 1000 times the place of the one and the place of the other: place p is bit p mod 16 of word p/16. */
 #include "draw.h"
 #include "flip.h"
+#include "forms.h"
 #include "library.h"
 #include "plain.h"
-#include "second_block.h"
 
 enum { DATA = 32, WORDS = 38, BITS = 16, PLACES = 608, DATA_PLACES = 512, MANY = 20000, SOME = 5000 };
 
@@ -83,8 +83,7 @@ static void scrub(struct test *t, struct state *library, uint64_t n, uint64_t at
 {
     struct state second = *library, plainly = *library;
     library->returned = block_scrub(library->room + BEFORE, n);
-    struct block_answer a = second_block_scrub(second.room + BEFORE, n);
-    second.returned = a.flips | a.number << 8;
+    second.returned = scrub_number(second_block_scrub(second.room + BEFORE, n));
     plainly.returned = plain_block_scrub(plainly.room + BEFORE, n);
     compare_answers(t, *library, second, at);
     compare_states(&plain_scrubbed, &plainly, &second, at);
@@ -253,12 +252,9 @@ static void scrub_flipped(struct split *s, unsigned *places, unsigned count, uns
 {
     struct state read;
     draw_block(&read);
-    for (unsigned k = 0; k < n; k++) {
-        unsigned other = k + draw() % (count - k), place = places[other];
-        places[other] = places[k];
-        places[k] = place;
-        flip(&read, place);
-    }
+    draw_front(places, count, n);
+    for (unsigned k = 0; k < n; k++)
+        flip(&read, places[k]);
     scrub(&s->test, &read, WORDS, at);
     s->mended += read.returned == 1 || read.returned == 2;
     s->lost += read.returned == 2 << 8;

@@ -4,18 +4,13 @@
    Answers that differ are reported at the word that was read. */
 #include "draw.h"
 #include "flip.h"
+#include "forms.h"
 #include "library.h"
 #include "plain.h"
-#include "second.h"
 
 enum { VALUES = 65536, SLICE = 1000, MANY = 20000, PAIRS = 2000 };
 
 static struct test plain = {.name = "the plain version's decode, the same words"};
-
-static uint64_t number(struct answer a)
-{
-    return a.data | a.flips << 16 | (uint64_t)a.number << 24;
-}
 
 /* the words that wait until there is a slice of them */
 static uint64_t waiting[SLICE], waiting_count;
@@ -27,7 +22,7 @@ static void decode_waiting(struct test *t)
     plain_decode(waiting, waiting_count, plain_verdicts, plain_repaired);
     for (uint64_t k = 0; k < waiting_count; k++) {
         struct answer a = second_decode(waiting[k]);
-        uint64_t library[2] = {verdicts[k], repaired[k]}, second[2] = {number(a), a.repaired};
+        uint64_t library[2] = {verdicts[k], repaired[k]}, second[2] = {verdict_number(a), a.repaired};
         for (unsigned p = 0; p < 2; p++) {
             compare(t, library[p] ^ flip_library[p], second[p] ^ flip_second[p], waiting[k]);
             flip_library[p] = flip_second[p] = 0;
@@ -82,9 +77,9 @@ static void worked_words(void)
         struct answer second = second_decode(worked[k].read);
         uint64_t verdict, repaired;
         grid_decode(&worked[k].read, 1, &verdict, 1, &repaired, 1);
-        compare(&t, verdict, number(worked[k].answer), worked[k].read);
+        compare(&t, verdict, verdict_number(worked[k].answer), worked[k].read);
         compare(&t, repaired, worked[k].answer.repaired, worked[k].read);
-        compare(&t, number(second), number(worked[k].answer), worked[k].read);
+        compare(&t, verdict_number(second), verdict_number(worked[k].answer), worked[k].read);
         compare(&t, second.repaired, worked[k].answer.repaired, worked[k].read);
     }
     report(&t);

@@ -41,6 +41,16 @@ static inline uint64_t draw_places(uint64_t places, uint64_t n)
     return chosen;
 }
 
+/* brings n drawn ones of some places to the front; the places change their order */
+static inline void draw_front(unsigned *places, unsigned count, unsigned n)
+{
+    for (unsigned k = 0; k < n; k++) {
+        unsigned other = k + draw() % (count - k), place = places[other];
+        places[other] = places[k];
+        places[k] = place;
+    }
+}
+
 /* a report that names the seed */
 static inline void report_drawn(struct test t)
 {

@@ -1,5 +1,5 @@
-/* One operation many times, for counting its instructions: `speed SIDE OPERATION COUNT`, where SIDE is `library` or `plain`. COUNT is a
-   multiple of 1000, but for `image-clean` any number. */
+/* One operation many times, for counting its instructions: `speed SIDE OPERATION COUNT`, where SIDE is `library` or `plain`, and COUNT a
+   multiple of how many are made at a time: 4091 for `image-clean`, 200 for blocks, 1000 for all others. */
 #include "draw.h"
 #include "library.h"
 #include "plain.h"
@@ -13,8 +13,8 @@ enum { WORDS = 1000, PAGE = 500, NUMBERS = 5, BLOCKS = 200, BLOCK_DATA = 32, BLO
 /* the longest image: a title of ten bytes, and 4,091 grids in eight fields, all of them full but for the last */
 enum { IMAGE = 32768, IMAGE_GRIDS = 4091, FIELD_GRIDS = 512, TALLIES = 10 };
 
-/* An answer is the flips, and from bit 8 on document 01's number, for a word and a block alike; for a grid of a page it is 1 if clean, and
-   for an image its clean grids. */
+/* An answer is the flips, and from bit 8 on document 01's number, for a word and a block alike; for a grid of a page or of an image it is
+   1 if clean. */
 enum { GRID_LOST = 1 << 8, BLOCK_LOST = 2 << 8 };
 
 /* what is decoded and scrubbed, and the answers */
@@ -102,13 +102,13 @@ static void plain_block_scrubbing(uint32_t n)
 
 static void library_image_scrubbing(uint32_t n)
 {
-    for (; n > 0; n--)
+    for (; n >= IMAGE_GRIDS; n -= IMAGE_GRIDS)
         returned += (uint32_t)(image_scrub(image, IMAGE, tally, TALLIES) >> 32);
 }
 
 static void plain_image_scrubbing(uint32_t n)
 {
-    for (; n > 0; n--)
+    for (; n >= IMAGE_GRIDS; n -= IMAGE_GRIDS)
         returned += (uint32_t)(plain_image_scrub(image, IMAGE, tally) >> 32);
 }
 
@@ -125,10 +125,10 @@ static const struct kind decoding = {library_decoding, plain_decoding, WORDS};
 static const struct kind scrubbing = {library_scrubbing, plain_scrubbing, PAGE};
 static const struct kind block_encoding = {library_block_encoding, plain_block_encoding, BLOCKS};
 static const struct kind block_scrubbing = {library_block_scrubbing, plain_block_scrubbing, BLOCKS};
-static const struct kind image_scrubbing = {library_image_scrubbing, plain_image_scrubbing, 1};
+static const struct kind image_scrubbing = {library_image_scrubbing, plain_image_scrubbing, IMAGE_GRIDS};
 
 /* Each with what every answer has to be, and the places that are flipped in every grid. From `clean` to `lost` a word is decoded;
-   `page-clean` is for one grid of a page, `image-clean` for a whole image. The blocks are any words. */
+   `page-clean` is for one grid of a page, `image-clean` for one of an image. The blocks are any words. */
 static const struct {
     const char *name;
     const struct kind *kind;
@@ -143,7 +143,7 @@ static const struct {
     {"both-trials", &decoding, 6, 0x0000000000070007},
     {"lost", &decoding, GRID_LOST, 0x000000B1000000B1},
     {"page-clean", &scrubbing, 1, 0},
-    {"image-clean", &image_scrubbing, IMAGE_GRIDS, 0},
+    {"image-clean", &image_scrubbing, 1, 0},
     {"block-encode", &block_encoding, 0, 0},
     {"block-random", &block_scrubbing, BLOCK_LOST, 0},
 };
@@ -173,6 +173,19 @@ static const struct {
     {"block-lost", BLOCK_LOST, {{5, 1 << 7}, {9, 1 << 11}, {14, 1 << 2}}},
 };
 
+static void prepare_words(uint64_t flips)
+{
+    for (uint32_t w = 0; w < WORDS; w++)
+        words[w] = plain_grid(value(w)) ^ flips;
+}
+
+static void prepare_blocks(void)
+{
+    for (uint32_t k = 0; k < BLOCKS; k++)
+        for (unsigned w = 0; w < BLOCK_WORDS; w++)
+            blocks[k].words[w] = (uint16_t)draw();
+}
+
 static void prepare_image(void)
 {
     uint8_t *to = image;
@@ -194,19 +207,21 @@ static void prepare_image(void)
 /* the kind of the operation of that name, and what its answer has to be, when what it works on is there; 0 if there is none */
 static const struct kind *prepared(const char *name, uint32_t *answer)
 {
-    for (uint32_t k = 0; k < BLOCKS; k++)
-        for (unsigned w = 0; w < BLOCK_WORDS; w++)
-            blocks[k].words[w] = (uint16_t)draw();
-    prepare_image();
     for (unsigned o = 0; o < sizeof operations / sizeof *operations; o++)
         if (strcmp(name, operations[o].name) == 0) {
-            for (uint32_t w = 0; w < WORDS; w++)
-                words[w] = plain_grid(value(w)) ^ operations[o].flips;
+            const struct kind *kind = operations[o].kind;
+            if (kind == &image_scrubbing)
+                prepare_image();
+            else if (kind == &block_encoding || kind == &block_scrubbing)
+                prepare_blocks();
+            else
+                prepare_words(operations[o].flips);
             *answer = operations[o].answer;
-            return operations[o].kind;
+            return kind;
         }
     for (unsigned o = 0; o < sizeof block_scrubs / sizeof *block_scrubs; o++)
         if (strcmp(name, block_scrubs[o].name) == 0) {
+            prepare_blocks();
             for (uint32_t k = 0; k < BLOCKS; k++) {
                 plain_block_encode(blocks[k].words, BLOCK_DATA, blocks[k].words, BLOCK_WORDS);
                 for (unsigned f = 0; f < 3; f++)

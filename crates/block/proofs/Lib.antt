@@ -1,11 +1,2 @@
-pub mod Stack
-pub mod Mixing
-pub mod Syndromes
-pub mod Places
-pub mod Distance
-pub mod Equations
-pub mod Guesses
-pub mod Search
-pub mod Sums
 pub mod Outcomes
 pub mod Promises

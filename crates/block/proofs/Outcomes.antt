@@ -22,18 +22,19 @@ use Rattle.words.proofs.Ones.{ones-pow, ones-two, AtMostTwo, at-most-two}
 use Rattle.words.proofs.Xor.{xor-assoc}
 use Rattle.codes.specs.Verdict.{Verdict, clean, mended, lost, answered, off, verdict, repaired, scrubbed}
 use Rattle.codes.proofs.Promises.{found, none-near}
-use Rattle.block.specs.Code.{codeword, blockCode, rowsOf, columnsOf, diagonalsOf}
-use Rattle.block.specs.Equations.{Codeword}
+use Rattle.block_code.specs.Code.{codeword, blockCode, rowsOf, columnsOf, diagonalsOf}
+use Rattle.block_code.specs.Equations.{Codeword}
 use Rattle.block.specs.Answer.{answerOf, encodeNumberOf}
 use Rattle.block.specs.Calls.{allowed, Encoded, Scrubbed}
-use Rattle.block.specs.Steps.{noChecks, mixed, saidBy, heldBy, checkWords, syndromeOf, ofPlace, Unexplained}
-use Rattle.block.specs.declared.checks.Checks.{Checks}
+use Rattle.block_code.specs.Checks.{noChecks, mixed, saidBy, heldBy, checkWords, syndromeOf, ofPlace}
+use Rattle.block_flips.specs.Steps.{Unexplained}
+use Rattle.block_code.specs.declared.Checks.{Checks}
 use Rattle.block.specs.declared.Outcome.the-variants.{Clean, Mended, Lost, Length}
 use Rattle.block.specs.declared.Written.the-variants.{Done, Length as OtherLength}
-use Rattle.block.proofs.Distance.{distance}
-use Rattle.block.proofs.Equations.{meets}
-use Rattle.block.proofs.Mixing.{mixed-self, mixed-none}
-use Rattle.block.proofs.Syndromes.{syndrome-sum, syndrome-zero, syndrome-codeword, codeword-of, codeword-lt, rows-lt, columns-lt, diagonals-lt}
+use Rattle.block_code.proofs.Distance.{distance}
+use Rattle.block_code.proofs.Equations.{meets}
+use Rattle.block_code.proofs.Mixing.{mixed-self, mixed-none}
+use Rattle.block_code.proofs.Syndromes.{syndrome-sum, syndrome-zero, syndrome-codeword, codeword-of, codeword-lt, rows-lt, columns-lt, diagonals-lt}
 
 -- ---- a codeword within two places
 

@@ -1,4 +1,4 @@
--- What specs/Promises.antt says of the block holds. Assumes nothing.
+-- What specs/Promises.antt says of the block's calls holds. Assumes nothing.
 use mathlib.Core.Path.{_≡_, refl, sym, ap, _∙_, subst}
 use mathlib.Core.Logic.{_≢_, _⊎_, inl, inr}
 use mathlib.Core.Bool.{Bool, true, false}
@@ -14,40 +14,24 @@ use borrow.Author.Tests.{eq-eqb, ne-eqb}
 use Rattle.words.specs.Word.{choose, dist}
 use Rattle.words.specs.Fields.{fields, joined, Below}
 use Rattle.words.proofs.Dist.{dist-self}
-use Rattle.words.proofs.Fields.{bit-fields, length-fields, take-fields, joined-fields, joined-lt, fields-joined}
+use Rattle.words.proofs.Fields.{length-fields, take-fields, joined-fields, joined-lt, fields-joined}
 use Rattle.codes.specs.Verdict as codes
 use Rattle.codes.specs.Verdict.{clean, mended, lost, tie, answered, refusal, flipsOf, verdict, repaired, scrubbed}
-use Rattle.codes.specs.Promises.{Promises}
-use Rattle.codes.proofs.Promises.{every-code, found, none-near, answered-repaired}
+use Rattle.codes.proofs.Promises.{found, none-near, answered-repaired}
 use Rattle.codes.proofs.Tally.{scrubbed-lt, tallies, again-number, again-no-flips, codeword-now}
-use Rattle.block.specs.Equations.{Codeword}
-use Rattle.block.specs.Code.{codeword, blockCode}
+use Rattle.block_code.specs.Equations.{Codeword}
+use Rattle.block_code.specs.Code.{codeword, blockCode}
 use Rattle.block.specs.Answer.{answerOf, numberOf, flipsIn, encodeNumberOf}
 use Rattle.block.specs.Calls.{allowed, Encoded, Scrubbed}
-use Rattle.block.specs.Promises.{BlockPromises, EncodePromises, ScrubPromises, OneOutcome}
+use Rattle.block.specs.Promises.{EncodePromises, ScrubPromises, OneOutcome}
 use Rattle.block.specs.declared.Outcome.{Outcome}
 use Rattle.block.specs.declared.Outcome.the-variants.{Clean, Tie, Length}
 use Rattle.block.specs.declared.Written.{Written}
 use Rattle.block.specs.declared.Written.the-variants.{Done, Length as OtherLength}
-use Rattle.block.proofs.Distance.{distance, constants}
-use Rattle.block.proofs.Equations.{meets, one-solution, one-value}
+use Rattle.block_code.proofs.Distance.{distance}
+use Rattle.block_code.proofs.Promises.{promised}
 use Rattle.block.proofs.Outcomes.{block-lt, back, is-allowed, not-allowed}
-use Rattle.block.proofs.Syndromes.{codeword-lt, data-words}
-
-verdicts : Promises blockCode
-verdicts = every-code blockCode .promises 5 distance (lit< tt)
-
-pub promised : BlockPromises
-promised = record {
-  places = λ w i c hi hc. sym (bit-fields 16 38 w i c hi hc);
-  there-and-back = λ w h. joined-fields 16 38 w h;
-  back-and-there = λ ws n h. back ws (n, h);
-  meets = meets;
-  one-solution = one-solution;
-  one-value = one-value;
-  constants = constants;
-  verdicts = verdicts;
-}
+use Rattle.block_code.proofs.Syndromes.{codeword-lt, data-words}
 
 -- ---- the encoder
 
@@ -164,10 +148,10 @@ scrubbed-number : (ws exit : List ℕ) → length ws ≡ 38 → Below 16 ws → 
 scrubbed-number ws exit n small x =
     ap (joined 16) x
     ∙ joined-fields 16 38 (scrubbed blockCode (joined 16 ws))
-    (scrubbed-lt blockCode verdicts (2 ^ 608) codeword-lt (joined 16 ws) (block-lt ws (n, small)))
+    (scrubbed-lt blockCode (promised .verdicts) (2 ^ 608) codeword-lt (joined 16 ws) (block-lt ws (n, small)))
 
 numbers : (ws exit : List ℕ) (r : Outcome) → length ws ≡ 38 → Judged ws exit r → (numberOf r ≡ 0) ⊎ (numberOf r ≡ 2)
-numbers ws exit r m (inl (n, a, x)) = go (zero-or-two v (verdicts .no-tie (joined 16 ws)))
+numbers ws exit r m (inl (n, a, x)) = go (zero-or-two v (promised .verdicts .no-tie (joined 16 ws)))
   where
     v : codes.Verdict
     v = verdict blockCode (joined 16 ws)
@@ -189,14 +173,14 @@ no-tie ws exit r (inr (n, a, x)) e = absurd (omega (arith, ap numberOf a, ap num
 some-codeword : (ws exit : List ℕ) (r : Outcome) → Judged ws exit r → numberOf r ≡ 0 → (d : ℕ) × (d < 2 ^ 512) × (exit ≡ fields 16 38 (codeword d))
 some-codeword ws exit r (inl (n, a, x)) z =
     let v : codes.Verdict = verdict blockCode (joined 16 ws) in
-    let (d, l, e) = codeword-now blockCode verdicts 1 (joined 16 ws) (sym (number-of v) ∙ ap numberOf (sym a) ∙ z) in
+    let (d, l, e) = codeword-now blockCode (promised .verdicts) 1 (joined 16 ws) (sym (number-of v) ∙ ap numberOf (sym a) ∙ z) in
     (d, l, x ∙ ap (fields 16 38) e)
 some-codeword ws exit r (inr (n, a, x)) z = absurd (omega (arith, z, ap numberOf a))
 
 is-codeword : (d : ℕ) (exit : List ℕ) → d < 2 ^ 512 → exit ≡ fields 16 38 (codeword d) → Codeword (joined 16 (take 32 exit)) (joined 16 exit)
 is-codeword d exit l x =
     subst (λ (e : ℕ). Codeword e (joined 16 exit)) (sym (ap (λ ws. joined 16 (take 32 ws)) x ∙ ap (joined 16) (front d l) ∙ joined-fields 16 32 d l))
-    (subst (Codeword d) (sym (ap (joined 16) x ∙ whole d l)) (meets d l))
+    (subst (Codeword d) (sym (ap (joined 16) x ∙ whole d l)) (promised .meets d l))
 
 as-read : (ws exit : List ℕ) (r : Outcome) → Below 16 ws → Judged ws exit r → numberOf r ≢ 0 → exit ≡ ws
 as-read ws exit r small (inl (n, a, x)) ne =
@@ -206,7 +190,7 @@ as-read ws exit r small (inr (n, a, x)) ne = x
 
 changed : (ws exit : List ℕ) (r : Outcome) → Below 16 ws → Judged ws exit r → flipsIn r ≡ dist (joined 16 ws) (joined 16 exit)
 changed ws exit r small (inl (n, a, x)) =
-    ap flipsIn a ∙ flips-in (verdict blockCode (joined 16 ws)) ∙ verdicts .changed (joined 16 ws)
+    ap flipsIn a ∙ flips-in (verdict blockCode (joined 16 ws)) ∙ promised .verdicts .changed (joined 16 ws)
     ∙ ap (dist (joined 16 ws)) (sym (scrubbed-number ws exit n small x))
 changed ws exit r small (inr (n, a, x)) = ap flipsIn a ∙ sym (ap (λ e. dist (joined 16 ws) (joined 16 e)) x ∙ dist-self (joined 16 ws))
 
@@ -214,7 +198,7 @@ changed ws exit r small (inr (n, a, x)) = ap flipsIn a ∙ sym (ap (λ e. dist (
 clean-codeword : (d : ℕ) (ws exit : List ℕ) (r : Outcome) → d < 2 ^ 512 → ws ≡ fields 16 38 (codeword d) → Judged ws exit r → (r ≡ Clean) × (exit ≡ ws)
 clean-codeword d ws exit r l e j =
     let (a, x) =
-    of-word ws exit r (codeword d) (clean d) (ap length e ∙ length-fields 16 38 (codeword d)) (ap (joined 16) e ∙ whole d l) (verdicts .unharmed d l) j in
+    of-word ws exit r (codeword d) (clean d) (ap length e ∙ length-fields 16 38 (codeword d)) (ap (joined 16) e ∙ whole d l) (promised .verdicts .unharmed d l) j in
     (a, x ∙ sym e)
 
 -- a verdict that hands data out
@@ -240,7 +224,7 @@ undone : (d p : ℕ) (exit : List ℕ) (r : Outcome) → d < 2 ^ 512 → p < 2 ^
 undone d p exit r l h few j =
     let w : ℕ = bitXor (codeword d) p in
     answers (fields 16 38 w) exit r w d (ones p) (length-fields 16 38 w)
-    (joined-fields 16 38 w (xor-lt 608 (codeword d) p (codeword-lt d l) h)) (verdicts .undone d p l few) j
+    (joined-fields 16 38 w (xor-lt 608 (codeword d) p (codeword-lt d l) h)) (promised .verdicts .undone d p l few) j
 
 again : (ws once twice : List ℕ) (r s : Outcome) → Below 16 ws → Judged ws once r → Judged once twice s
     → (twice ≡ once) × (flipsIn s ≡ 0) × (numberOf s ≡ numberOf r)
@@ -249,9 +233,9 @@ again ws once twice r s small (inl (n, a, x)) j =
     let v : codes.Verdict = verdict blockCode (scrubbed blockCode w) in
     let (b, y) =
     of-word once twice s (scrubbed blockCode w) v (ap length x ∙ length-fields 16 38 (scrubbed blockCode w)) (scrubbed-number ws once n small x) refl j in (
-      y ∙ ap (fields 16 38) (tallies blockCode verdicts .again w) ∙ sym x,
-      ap flipsIn b ∙ flips-in v ∙ again-no-flips blockCode verdicts w,
-      ap numberOf b ∙ number-of v ∙ again-number blockCode verdicts 2 w ∙ sym (ap numberOf a ∙ number-of (verdict blockCode w)),
+      y ∙ ap (fields 16 38) (tallies blockCode (promised .verdicts) .again w) ∙ sym x,
+      ap flipsIn b ∙ flips-in v ∙ again-no-flips blockCode (promised .verdicts) w,
+      ap numberOf b ∙ number-of v ∙ again-number blockCode (promised .verdicts) 2 w ∙ sym (ap numberOf a ∙ number-of (verdict blockCode w)),
     )
 again ws once twice r s small (inr (n, a, x)) (inl (m, b, y)) = absurd (n (ap length (sym x) ∙ m))
 again ws once twice r s small (inr (n, a, x)) (inr (m, b, y)) = (y, ap flipsIn b, ap numberOf b ∙ sym (ap numberOf a))
@@ -261,8 +245,8 @@ scrub-promised = record {
   refused = λ ws exit r ne h. refused ws exit r ne (judged ws exit r h);
   numbers = λ ws exit r n h. numbers ws exit r n (judged ws exit r h);
   is-verdict = λ ws exit r v n h p.
-      of-word ws exit r (joined 16 ws) v n refl (sym (verdicts .settled (joined 16 ws) .one v p)) (judged ws exit r h);
-  has-verdict = λ ws. (verdict blockCode (joined 16 ws), verdicts .settled (joined 16 ws) .has);
+      of-word ws exit r (joined 16 ws) v n refl (sym (promised .verdicts .settled (joined 16 ws) .one v p)) (judged ws exit r h);
+  has-verdict = λ ws. (verdict blockCode (joined 16 ws), promised .verdicts .settled (joined 16 ws) .has);
   numbers-of = λ v. (number-of v, flips-in v);
   within = λ ws exit r d n h l few.
       answers ws exit r (joined 16 ws) d (dist (joined 16 ws) (codeword d)) n refl (found blockCode 5 distance (lit< tt) (joined 16 ws) d l few)

@@ -8,8 +8,8 @@ use lib.ListN.{length}
 use Rattle.words.specs.Word.{choose}
 use Rattle.words.specs.Fields.{fields, joined}
 use Rattle.codes.specs.Verdict.{verdict, scrubbed}
-use Rattle.block.specs.Equations.{Codeword}
-use Rattle.block.specs.Code.{codeword, blockCode}
+use Rattle.block_code.specs.Equations.{Codeword}
+use Rattle.block_code.specs.Code.{codeword, blockCode}
 use Rattle.block.specs.Answer.{answerOf}
 use Rattle.block.specs.declared.Outcome.{Outcome}
 use Rattle.block.specs.declared.Outcome.the-variants.{Length}

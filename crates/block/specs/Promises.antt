@@ -1,41 +1,23 @@
--- What is proved of the block, for all data and all words (`promised`, `encode-promised`, `scrub-promised`, `one-outcome`). Assumes
--- nothing.
+-- What is proved of the block's calls, whatever was given (`encode-promised`, `scrub-promised`, `one-outcome`). What is proved of the code
+-- stands in the crate block_code. Assumes nothing.
 use mathlib.Core.Path.{_≡_}
 use mathlib.Core.Logic.{_≢_, _⊎_}
 use mathlib.Core.List.{List}
 use Prim.Native.Nat.{ℕ, _^_, _≤_, _<_}
 use lib.Bits.{bitXor}
 use lib.Count.{ones}
-use lib.ListN.{length, getD, take}
-use Rattle.words.specs.Word.{bit, dist}
+use lib.ListN.{length, take}
+use Rattle.words.specs.Word.{dist}
 use Rattle.words.specs.Fields.{fields, joined, Below}
 use Rattle.codes.specs.Verdict as codes
 use Rattle.codes.specs.Verdict.{IsVerdict, refusal, flipsOf, repaired}
-use Rattle.codes.specs.Promises.{States, Promises}
-use Rattle.block.specs.Equations.{inWord, Codeword}
-use Rattle.block.specs.Code.{codeword, blockCode}
+use Rattle.block_code.specs.Equations.{Codeword}
+use Rattle.block_code.specs.Code.{codeword, blockCode}
 use Rattle.block.specs.Answer.{answerOf, numberOf, flipsIn, encodeNumberOf}
 use Rattle.block.specs.Calls.{Encoded, Scrubbed}
 use Rattle.block.specs.declared.Outcome.{Outcome}
 use Rattle.block.specs.declared.Outcome.the-variants.{Clean, Lost, Tie}
 use Rattle.block.specs.declared.Written.{Written}
-
-pub record BlockPromises : Type 0 where
-  -- Word i is 16 bits of the number, word 0 the lowest, and bit 0 of a word is the lowest.
-  pub places : (w i c : ℕ) → i < 38 → c < 16 → bit (getD (fields 16 38 w) i 0) c ≡ inWord w i c
-  -- From the number to the words and back nothing changes, nor from 38 words to the number and back.
-  pub there-and-back : (w : ℕ) → w < 2 ^ 608 → joined 16 (fields 16 38 w) ≡ w
-  pub back-and-there : (ws : List ℕ) → length ws ≡ 38 → Below 16 ws → fields 16 38 (joined 16 ws) ≡ ws
-  -- Demand 2: encoding equals the parity equations, for all data.
-  pub meets : (d : ℕ) → d < 2 ^ 512 → Codeword d (codeword d)
-  -- They have one solution for each data value, ..
-  pub one-solution : (d g h : ℕ) → Codeword d g → Codeword d h → g ≡ h
-  -- .. and two values never have the same block.
-  pub one-value : (d e g : ℕ) → d < 2 ^ 512 → e < 2 ^ 512 → Codeword d g → Codeword e g → d ≡ e
-  -- The constants: radius 2, 608 places; two different codewords differ in at least 5 places, and some in no more.
-  pub constants : States blockCode 2 608 5
-  -- Demand 3, no tie, and one or two flips undone.
-  pub verdicts : Promises blockCode
 
 -- What the encoder promises.
 pub record EncodePromises : Type 0 where

@@ -12,10 +12,10 @@
 // and its diagonal; a single one also with its row and the system parity: five. So two blocks differ in at
 // least five places, and up to two flips leave a block nearer to what was written than to any other.
 //
-// The scrubber guesses a flipped place, and verifies it by the checks that are left (checks, flips).
+// The scrubber guesses a flipped place, and verifies it by the checks that are left (crate block_flips).
 //
-// specs/Equations.antt has the parities, specs/Calls.antt what each call promises, and
-// specs/Promises.antt what is proved of the code.
+// The crate block_code has the parities and what is proved of the code, specs/Calls.antt what each call
+// promises, and specs/Promises.antt what is proved of the calls.
 ghost use mathlib.Core.Path.{_≡_};
 ghost use mathlib.Core.Logic.{_≢_};
 ghost use Prim.Native.Nat.{_^_, _<_};
@@ -24,14 +24,11 @@ ghost use lib.ListN.{length};
 ghost use lib.Seq.{sets, paste};
 ghost use Rattle.words.specs.Fields.{joined};
 ghost use Rattle.codes.specs.Promises.{States};
-ghost use Rattle.block.specs.Code.{blockCode};
+ghost use Rattle.block_code.specs.Code.{blockCode};
 ghost use Rattle.block.specs.Calls.{Encoded, Scrubbed};
-ghost use Rattle.block.specs.Steps.{noChecks, heldBy, checkWords, syndromeOf};
-use checks::Checks;
-use flips::Flips;
-
-mod checks;
-mod flips;
+ghost use Rattle.block_code.specs.Checks.{noChecks, heldBy, checkWords, syndromeOf};
+use block_code::Checks;
+use block_flips::Flips;
 
 // The answer of the encoder: a block was written, or a slice has a length that is not allowed.
 pub enum Written {
@@ -103,7 +100,7 @@ fn syndrome(words: &[u16]) -> Checks
     requires { ⌜ length (now words) ≡ 38 ⌝ }
     ensures { λ r. ⌜ r ≡ syndromeOf (joined 16 (now (words .entry))) ⌝ }
 {
-    checks::mix(checks::said(words), held(words))
+    block_code::mix(block_code::said(words), held(words))
 }
 
 // The place flipped.
@@ -120,7 +117,7 @@ fn mend(words: &mut [u16], s: Checks) -> Outcome
     requires { ⌜ (length (now words) ≡ 38) × (s ≡ syndromeOf (joined 16 (now words))) × (s ≢ noChecks) ⌝ }
     ensures { λ r. ⌜ Scrubbed (now (words .entry)) r (now (words .exit)) ⌝ }
 {
-    match flips::nearest(s) {
+    match block_flips::nearest(s) {
         Flips::One(p) => {
             flip(words, p);
             Outcome::Mended { flips: 1 }
@@ -154,7 +151,7 @@ impl Block {
             return Written::Length;
         }
         copy(values, words);
-        hold(words, checks::said(values));
+        hold(words, block_code::said(values));
         Written::Done
     }
 
@@ -167,7 +164,7 @@ impl Block {
             return Outcome::Length;
         }
         let s = syndrome(words);
-        if checks::is_none(s) {
+        if block_code::is_none(s) {
             return Outcome::Clean;
         }
         mend(words, s)

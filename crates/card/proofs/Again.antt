@@ -10,20 +10,20 @@ use Rattle.words.specs.Fields.{fields, Below}
 use Rattle.words.specs.Bytes.{bytesOf}
 use Rattle.words.proofs.Fields.{length-fields}
 use Rattle.words.proofs.Lists.{map-twice}
-use Rattle.words.proofs.Bytes.{length-bytes}
+use Rattle.words.proofs.Bytes.{length-bytes, below-map}
 use Rattle.codes.specs.Verdict.{flipsOf, scrubbed}
 use Rattle.codes.specs.Tally.{isClean, isMended, isLost, sumBy}
 use Rattle.codes.proofs.Tally.{scrubbed-lt}
-use Rattle.grid.specs.Code.{gridCode}
-use Rattle.grid.proofs.Promises as grid
-use Rattle.block.specs.Code.{blockCode}
-use Rattle.block.proofs.Promises as blocks
+use Rattle.grid_code.specs.Code.{gridCode}
+use Rattle.grid_code.proofs.Promises as grid
+use Rattle.block_code.specs.Code.{blockCode}
+use Rattle.block_code.proofs.Promises as blocks
 use Rattle.page.proofs.Promises.{laws}
 use Rattle.image.specs.Card.{Part, grids, block, Card, gridsIn, blocksIn, head, partBytes, partsBytes, frontOf, imageOf}
 use Rattle.image.specs.Promises.{ProperPart, AllProper, Proper}
-use Rattle.card.specs.Calls.{scrubbedPart, scrubbedCard, talliesOf}
+use Rattle.card_scrub.specs.Calls.{scrubbedPart, scrubbedCard, talliesOf}
 use Rattle.card.specs.Promises.{SameFrame, Again}
-use Rattle.card.proofs.Scrubs.{block-laws}
+use Rattle.card_scrub.proofs.Scrubs.{block-laws}
 
 -- ---- its grids and its blocks
 
@@ -64,11 +64,6 @@ second ps =
     }
 
 -- ---- it can stand in an image
-
-pub below-map : (j k : ℕ) (f : ℕ → ℕ) → ((w : ℕ) → w < 2 ^ j → f w < 2 ^ k) → (ws : List ℕ) → Below j ws → Below k (map f ws)
-below-map j k f h [] b i = pow-pos k
-below-map j k f h (w ∷ ws) b zero = h w (b 0)
-below-map j k f h (w ∷ ws) b (suc i) = below-map j k f h ws (λ i. b (suc i)) i
 
 proper-part : (p : Part) → ProperPart p → ProperPart (scrubbedPart p)
 proper-part (grids ws) (few, b) = (

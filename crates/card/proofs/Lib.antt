@@ -1,9 +1,3 @@
-pub mod Scrubs
-pub mod Writes
-pub mod Walks
-pub mod Parts
-pub mod Readings
-pub mod Judging
 pub mod Again
 pub mod Switches
 pub mod Promises

@@ -13,7 +13,7 @@ use Rattle.words.specs.Fields.{Below}
 use Rattle.words.specs.Bytes.{laid}
 use Rattle.words.proofs.Bytes.{take-laid, drop-laid}
 use Rattle.codes.specs.Verdict.{verdict}
-use Rattle.grid.specs.Code.{codeword, gridCode}
+use Rattle.grid_code.specs.Code.{codeword, gridCode}
 use Rattle.page.proofs.Promises.{laws}
 use Rattle.image.specs.Fields.{firstBad}
 use Rattle.image.specs.Card.{Card, Found, sound, broken, gridsIn, blocksIn, cardOf, imageOf}
@@ -22,21 +22,24 @@ use Rattle.image.specs.Promises.{Proper}
 use Rattle.image.specs.declared.Outcome.{Outcome}
 use Rattle.image.specs.declared.Outcome.the-variants.{Sound}
 use Rattle.image.proofs.Promises.{promised}
-use Rattle.card.specs.declared.Tallies.{Tallies}
-use Rattle.card.specs.declared.ScrubAnswer.{ScrubAnswer}
-use Rattle.card.specs.declared.ScrubAnswer.the-variants.{Done, Length, Broken}
-use Rattle.card.specs.declared.WriteAnswer.{WriteAnswer}
-use Rattle.card.specs.declared.WriteAnswer.the-variants.{Done as WriteDone, Length as WriteLength, Title, Room}
-use Rattle.card.specs.declared.ReadAnswer.{ReadAnswer}
-use Rattle.card.specs.declared.ReadAnswer.the-variants.{Done as ReadDone, Length as ReadLength}
-use Rattle.card.specs.declared.ReadAnswer.the-variants.{Broken as ReadBroken, Room as ReadRoom}
-use Rattle.card.specs.Answer.{dataOf, flipsShown, scrubNumber, scrubPlace, writeNumber, writePlace, readNumber, readPlace}
-use Rattle.card.specs.Calls.{scrubbedPart, scrubbedCard, talliesOf, Scrubbed}
-use Rattle.card.specs.Calls.{cardOn, cardWith, sizeWritten, lengthsAllowed, Wrote, roomFor, readAs, Read}
+use Rattle.card_scrub.specs.declared.Tallies.{Tallies}
+use Rattle.card_scrub.specs.declared.ScrubAnswer.{ScrubAnswer}
+use Rattle.card_scrub.specs.declared.ScrubAnswer.the-variants.{Done, Length, Broken}
+use Rattle.card_write.specs.declared.WriteAnswer.{WriteAnswer}
+use Rattle.card_write.specs.declared.WriteAnswer.the-variants.{Done as WriteDone, Length as WriteLength, Title, Room}
+use Rattle.card_read.specs.declared.ReadAnswer.{ReadAnswer}
+use Rattle.card_read.specs.declared.ReadAnswer.the-variants.{Done as ReadDone, Length as ReadLength}
+use Rattle.card_read.specs.declared.ReadAnswer.the-variants.{Broken as ReadBroken, Room as ReadRoom}
+use Rattle.card_read.specs.Answer.{dataShown, flipsShown, readNumber, readPlace}
+use Rattle.card_scrub.specs.Answer.{scrubNumber, scrubPlace}
+use Rattle.card_write.specs.Answer.{writeNumber, writePlace}
+use Rattle.card_scrub.specs.Calls.{scrubbedPart, scrubbedCard, talliesOf, Scrubbed}
+use Rattle.card_write.specs.Calls.{cardOn, cardWith, sizeWritten, lengthsAllowed, Wrote}
+use Rattle.card_read.specs.Calls.{roomFor, readAs, Read}
 use Rattle.card.specs.Promises.{Again, ScrubPromises, Switched, WritePromises, ReadPromises, OneOutcome}
-use Rattle.card.proofs.Scrubs.{block-laws}
-use Rattle.card.proofs.Writes.{is-long, is-bad, is-short, is-done}
-use Rattle.card.proofs.Judging.{judged-long, judged-as}
+use Rattle.card_scrub.proofs.Scrubs.{block-laws}
+use Rattle.card_write.proofs.Writes.{is-long, is-bad, is-short, is-done}
+use Rattle.values.proofs.Judging.{judged-long, judged-as}
 use Rattle.card.proofs.Again.{same-frame, second, still-proper, same-length, twice}
 use Rattle.card.proofs.Switches.{put-right, none-switched, no-flips, length-on, lengths, few, found-on, read-on}
 
@@ -246,7 +249,7 @@ module _ (image title ns flips title′ ns′ flips′ : List ℕ) (r : ReadAnsw
   seen t x long breaks short whole = choose t (byFound breaks (fits short whole) x) long
 
   abbrev datas : Card → List ℕ
-  datas c = laid (map (λ w. dataOf (verdict gridCode w)) (gridsIn (c .parts))) ns
+  datas c = laid (map (λ w. dataShown (verdict gridCode w)) (gridsIn (c .parts))) ns
 
   abbrev counts : Card → List ℕ
   counts c = laid (map (λ w. flipsShown (verdict gridCode w)) (gridsIn (c .parts))) flips

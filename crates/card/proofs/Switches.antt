@@ -2,7 +2,7 @@
 -- put right as it was written. Assumes nothing.
 use mathlib.Core.Path.{_≡_, refl, sym, ap, _∙_}
 use mathlib.Core.Bool.{Bool, true, false, _&&_, false≢true}
-use mathlib.Core.List.{List, [], _∷_, _++_, map, append-nil}
+use mathlib.Core.List.{List, [], _++_, map, append-nil}
 use Prim.Native.Nat.{ℕ, _+_, _*_, _≤_, _<_}
 use native.Mathlib.Omega.{arith}
 use lib.Dec.{leb, eqb}
@@ -16,23 +16,25 @@ use Rattle.words.proofs.Lists.{map-getD}
 use Rattle.words.proofs.Dist.{dist-self}
 use Rattle.codes.specs.Verdict.{Verdict, clean, mended, lost, tie, off, verdict, repaired, scrubbed}
 use Rattle.codes.specs.Promises.{Hands}
-use Rattle.grid.specs.Code.{codeword, gridCode}
-use Rattle.grid.proofs.Promises.{promised}
+use Rattle.grid_code.specs.Code.{codeword, gridCode}
+use Rattle.grid_code.proofs.Promises.{promised}
 use Rattle.image.specs.Fields.{firstBad, isTitle}
 use Rattle.image.specs.Card.{grids, Card, gridsIn, sound, cardOf, partBytes, partsBytes, imageOf}
 use Rattle.image.specs.Promises.{Proper}
 use Rattle.image.proofs.Promises as image
-use Rattle.card.specs.declared.ReadAnswer.{ReadAnswer}
-use Rattle.card.specs.declared.ReadAnswer.the-variants.{Done, Length, Broken, Room}
-use Rattle.card.specs.Answer.{dataOf, flipsShown}
-use Rattle.card.specs.Calls.{cardOn, lengthsAllowed, roomFor, readAs, Read}
+use Rattle.card_read.specs.declared.ReadAnswer.{ReadAnswer}
+use Rattle.card_read.specs.declared.ReadAnswer.the-variants.{Done, Length, Broken, Room}
+use Rattle.card_read.specs.Answer.{dataShown, flipsShown}
+use Rattle.card_write.specs.Calls.{cardOn, lengthsAllowed}
+use Rattle.card_read.specs.Calls.{roomFor, readAs, Read}
 use Rattle.card.specs.Promises.{Switched}
-use Rattle.card.proofs.Judging.{judged-as}
-use Rattle.card.proofs.Again.{below-map, grids-long, card-long}
+use Rattle.values.proofs.Judging.{judged-as}
+use Rattle.words.proofs.Bytes.{below-map}
+use Rattle.card.proofs.Again.{grids-long, card-long}
 
 -- ---- grid by grid
 
-handed-data : (v : Verdict) (d n : ℕ) → Hands v d n → dataOf v ≡ d
+handed-data : (v : Verdict) (d n : ℕ) → Hands v d n → dataShown v ≡ d
 handed-data (clean e) d n h = h .0
 handed-data (mended e m) d n h = h .0
 handed-data lost d n h = absurd h
@@ -54,9 +56,9 @@ module _ (ns ws : List ℕ) (small : Below 16 ns) (s : Switched ns ws) where
   handed : (i : ℕ) → i < length ns → Hands (verdict gridCode (getD ws i 0)) (getD ns i 0) (off gridCode (getD ws i 0) (getD ns i 0))
   handed i l = promised .verdicts .demand3 (getD ws i 0) .given (getD ns i 0) (small i) (s .few i l)
 
-  numbers-read : map (λ w. dataOf (verdict gridCode w)) ws ≡ ns
+  numbers-read : map (λ w. dataShown (verdict gridCode w)) ws ≡ ns
   numbers-read =
-      mapped (λ w. dataOf (verdict gridCode w)) ws ns (s .many)
+      mapped (λ w. dataShown (verdict gridCode w)) ws ns (s .many)
       (λ i l. handed-data (verdict gridCode (getD ws i 0)) (getD ns i 0) (off gridCode (getD ws i 0) (getD ns i 0)) (handed i l))
 
   pub put-right : map (scrubbed gridCode) ws ≡ map codeword ns
@@ -158,8 +160,8 @@ module _ (title ns : List ℕ) (allowed : lengthsAllowed title ns ≡ true) wher
             ∙ ap (Done (length title)) many,
         d .title-after ∙ read-as title₀ (λ at. title₀) title₀ (λ c. laid (c .title) title₀),
         d .numbers-after
-            ∙ read-as ns₀ (λ at. ns₀) ns₀ (λ c. laid (map (λ w. dataOf (verdict gridCode w)) (gridsIn (c .parts))) ns₀)
-            ∙ ap (λ l. laid l ns₀) (ap (map (λ w. dataOf (verdict gridCode w))) (append-nil ws) ∙ numbers-read ns ws small s),
+            ∙ read-as ns₀ (λ at. ns₀) ns₀ (λ c. laid (map (λ w. dataShown (verdict gridCode w)) (gridsIn (c .parts))) ns₀)
+            ∙ ap (λ l. laid l ns₀) (ap (map (λ w. dataShown (verdict gridCode w))) (append-nil ws) ∙ numbers-read ns ws small s),
         d .flips-after
             ∙ read-as flips₀ (λ at. flips₀) flips₀ (λ c. laid (map (λ w. flipsShown (verdict gridCode w)) (gridsIn (c .parts))) flips₀)
             ∙ ap (λ l. laid (map (λ w. flipsShown (verdict gridCode w)) l) flips₀) (append-nil ws),

@@ -1,4 +1,1 @@
-pub mod Answer
-pub mod Calls
 pub mod Promises
-pub mod Steps

@@ -10,21 +10,25 @@ use Rattle.words.specs.Word.{dist}
 use Rattle.words.specs.Fields.{Below}
 use Rattle.words.specs.Bytes.{laid}
 use Rattle.codes.specs.Verdict.{verdict}
-use Rattle.grid.specs.Code.{codeword, gridCode}
+use Rattle.grid_code.specs.Code.{codeword, gridCode}
 use Rattle.image.specs.Fields.{firstBad}
 use Rattle.image.specs.Card.{Card, sound, broken, gridsIn, blocksIn, cardOf, imageOf}
 use Rattle.image.specs.Calls.{Checked}
 use Rattle.image.specs.declared.Outcome.{Outcome}
 use Rattle.image.specs.declared.Outcome.the-variants.{Sound}
-use Rattle.card.specs.declared.Tallies.{Tallies}
-use Rattle.card.specs.declared.ScrubAnswer.{ScrubAnswer}
-use Rattle.card.specs.declared.ScrubAnswer.the-variants.{Done}
-use Rattle.card.specs.declared.WriteAnswer.{WriteAnswer}
-use Rattle.card.specs.declared.WriteAnswer.the-variants.{Done as WriteDone}
-use Rattle.card.specs.declared.ReadAnswer.{ReadAnswer}
-use Rattle.card.specs.declared.ReadAnswer.the-variants.{Done as ReadDone}
-use Rattle.card.specs.Answer.{dataOf, flipsShown, scrubNumber, scrubPlace, writeNumber, writePlace, readNumber, readPlace}
-use Rattle.card.specs.Calls.{talliesOf, scrubbedCard, Scrubbed, cardOn, cardWith, sizeWritten, lengthsAllowed, Wrote, roomFor, Read}
+use Rattle.card_scrub.specs.declared.Tallies.{Tallies}
+use Rattle.card_scrub.specs.declared.ScrubAnswer.{ScrubAnswer}
+use Rattle.card_scrub.specs.declared.ScrubAnswer.the-variants.{Done}
+use Rattle.card_write.specs.declared.WriteAnswer.{WriteAnswer}
+use Rattle.card_write.specs.declared.WriteAnswer.the-variants.{Done as WriteDone}
+use Rattle.card_read.specs.declared.ReadAnswer.{ReadAnswer}
+use Rattle.card_read.specs.declared.ReadAnswer.the-variants.{Done as ReadDone}
+use Rattle.card_read.specs.Answer.{dataShown, flipsShown, readNumber, readPlace}
+use Rattle.card_scrub.specs.Answer.{scrubNumber, scrubPlace}
+use Rattle.card_write.specs.Answer.{writeNumber, writePlace}
+use Rattle.card_scrub.specs.Calls.{talliesOf, scrubbedCard, Scrubbed}
+use Rattle.card_write.specs.Calls.{cardOn, cardWith, sizeWritten, lengthsAllowed, Wrote}
+use Rattle.card_read.specs.Calls.{roomFor, Read}
 
 -- the same card, as far as a scrub goes: title, numbers of grids and of blocks
 pub record SameFrame (c d : Card) : Type 0 where
@@ -127,7 +131,7 @@ pub record ReadPromises : Type 0 where
       → cardOf image ≡ sound c
       → Read image title ns flips r title′ ns′ flips′ → roomFor c title ns flips ≡ true
       → (r ≡ ReadDone (length (c .title)) (length (gridsIn (c .parts)))) × (title′ ≡ laid (c .title) title)
-      × (ns′ ≡ laid (map (λ w. dataOf (verdict gridCode w)) (gridsIn (c .parts))) ns)
+      × (ns′ ≡ laid (map (λ w. dataShown (verdict gridCode w)) (gridsIn (c .parts))) ns)
       × (flips′ ≡ laid (map (λ w. flipsShown (verdict gridCode w)) (gridsIn (c .parts))) flips)
 
 -- No second outcome satisfies the statement of a call.

@@ -15,16 +15,16 @@ use Rattle.words.proofs.Xor.{xor-cancel-l}
 use Rattle.codes.specs.Verdict.{Code, Verdict, clean, mended, lost, tie, off, IsVerdict, answered, verdict}
 use Rattle.codes.specs.Promises.{Promises}
 use Rattle.codes.proofs.Promises.{found}
-use Rattle.grid.specs.Equations as grid
-use Rattle.grid.specs.Code.{codeword, gridCode}
-use Rattle.grid.specs.Steps.{rowOf}
-use Rattle.grid.proofs.Codeword.{is-codeword}
-use Rattle.grid.proofs.Distance.{codeword-lt, distance}
-use Rattle.grid.proofs.Promises.{promised}
-use Rattle.block.specs.Equations as blocks
-use Rattle.block.specs.Code.{odd, stacked, rowsOf, columnsOf, behind, blockCode, codeword as blockOf}
-use Rattle.block.proofs.Promises.{promised as block-promised}
-use Rattle.block.proofs.Places.{system-columns}
+use Rattle.grid_code.specs.Equations as grid
+use Rattle.grid_code.specs.Code.{codeword, gridCode}
+use Rattle.grid_code.specs.Sides.{rowOf}
+use Rattle.grid_code.proofs.Codeword.{is-codeword}
+use Rattle.grid_code.proofs.Distance.{codeword-lt, distance}
+use Rattle.grid_code.proofs.Promises.{promised}
+use Rattle.block_code.specs.Equations as blocks
+use Rattle.block_code.specs.Code.{odd, stacked, rowsOf, columnsOf, behind, blockCode, codeword as blockOf}
+use Rattle.block_code.proofs.Promises.{promised as block-promised}
+use Rattle.block_code.proofs.Places.{system-columns}
 use Rattle.cases.specs.Cases.{Case, ofGrid, read, ofBlock, cases, Says, Hold}
 
 -- ---- what is computed

@@ -2,10 +2,10 @@
 use mathlib.Core.List.{List, [], _∷_}
 use Prim.Native.Nat.{ℕ, _+_, _*_, _^_}
 use Rattle.codes.specs.Verdict.{Verdict, clean, mended, lost, IsVerdict}
-use Rattle.grid.specs.Equations as grid
-use Rattle.grid.specs.Code.{gridCode}
-use Rattle.block.specs.Equations as block
-use Rattle.block.specs.Code.{blockCode}
+use Rattle.grid_code.specs.Equations as grid
+use Rattle.grid_code.specs.Code.{gridCode}
+use Rattle.block_code.specs.Equations as block
+use Rattle.block_code.specs.Code.{blockCode}
 
 -- ofGrid d g: the grid of the data d is g, and it is clean. read w v: the verdict on the grid w is v. ofBlock d w: the block of the data d
 -- is w, and it is clean.

@@ -9,6 +9,7 @@ use lib.ListN.{length, getD, take}
 use lib.Seq.{take-suc}
 use Rattle.codes.specs.Verdict.{Code, Verdict, clean, mended, lost, tie, refusal, flipsOf, verdict, repaired, scrubbed}
 use Rattle.codes.specs.Promises.{Hands, Promises}
+use Rattle.codes.proofs.Promises.{clean-word}
 use Rattle.codes.specs.Tally.{isClean, isMended, isLost, sumBy, TallyPromises}
 
 -- ---- one word
@@ -25,6 +26,16 @@ clean-of (clean d) e = (d, refl)
 clean-of (mended d n) e = absurd (omega (arith, e))
 clean-of lost e = absurd (omega (arith, e))
 clean-of tie e = absurd (omega (arith, e))
+
+-- one that is not mended stays as it is
+pub unmended : (C : Code) → Promises C → (w : ℕ) → isMended (verdict C w) ≡ 0 → scrubbed C w ≡ w
+unmended C P w z = go (verdict C w) refl
+  where
+    go : (v : Verdict) → verdict C w ≡ v → scrubbed C w ≡ w
+    go (clean d) e = ap (repaired C w) e ∙ sym (clean-word C P w d e .1)
+    go (mended d n) e = absurd (omega (arith, z, ap isMended e))
+    go lost e = ap (repaired C w) e
+    go tie e = ap (repaired C w) e
 
 -- the verdict on a word that was scrubbed
 settles : Verdict → Verdict

@@ -1,71 +1,27 @@
--- What specs/Promises.antt says of the grid holds. Assumes nothing.
+-- What specs/Promises.antt says of the grid's calls holds. Assumes nothing.
 use mathlib.Core.Path.{_≡_, refl, sym, ap, _∙_, subst}
 use mathlib.Core.Logic.{_≢_, _⊎_, inl, inr}
 use mathlib.Core.List.{List}
-use Prim.Native.Nat.{ℕ, _*_, _^_, _≤_, _<_}
-use native.Mathlib.Nat.{le-trans, le-antisymm}
-use native.Mathlib.Omega.{arith}
+use Prim.Native.Nat.{ℕ, _^_, _≤_, _<_}
 use lib.Bits.{bitXor, xor-lt}
 use lib.Count.{ones}
-use lib.Dec.{lit<, lit≤}
 use lib.ListN.{length, getD}
-use Rattle.words.specs.Word.{bit, dist}
+use Rattle.words.specs.Word.{dist}
 use Rattle.words.specs.Fields.{fields, joined}
-use Rattle.words.proofs.Fields.{bit-fields, joined-lt, joined-fields, fields-joined, dist-fields}
-use Rattle.words.proofs.Sum.{sum-eq, sum-bits}
+use Rattle.words.proofs.Fields.{joined-lt, joined-fields, fields-joined}
 use Rattle.codes.specs.Verdict.{Verdict, clean, mended, lost, tie, IsVerdict, answered, verdict, flipsOf, refusal, repaired, scrubbed}
-use Rattle.codes.specs.Promises.{States, Demand3}
-use Rattle.codes.proofs.Promises.{every-code, answered-repaired}
+use Rattle.codes.specs.Promises.{Demand3}
+use Rattle.codes.proofs.Promises.{answered-repaired}
 use Rattle.codes.proofs.Tally.{scrubbed-lt}
-use Rattle.grid.specs.Equations.{dataBit, dataOf, Codeword}
-use Rattle.grid.specs.Code.{codeword, gridCode}
+use Rattle.grid_code.specs.Code.{codeword, gridCode}
 use Rattle.grid.specs.Answer.{means, numberOf}
 use Rattle.grid.specs.Calls.{Decoded}
-use Rattle.grid.specs.Promises.{GridPromises, DecodePromises, OneOutcome}
+use Rattle.grid.specs.Promises.{DecodePromises, OneOutcome}
 use Rattle.grid.specs.declared.Answer.{Answer}
 use Rattle.grid.specs.declared.Verdict as enum
 use Rattle.grid.specs.declared.Verdict.the-variants.{Clean, Mended, Lost, Tie}
-use Rattle.grid.proofs.Codeword.{is-codeword, one-solution, one-value}
-use Rattle.grid.proofs.Distance.{codeword-lt, distance}
-
-data-is : (d g : ℕ) → d < 2 ^ 16 → Codeword d g → dataOf g ≡ d
-data-is d g h p =
-    sum-eq 16 (λ k. dataBit g k * 2 ^ k) (λ k. bit d k * 2 ^ k) (λ k l. ap (λ (x : ℕ). x * 2 ^ k) (p .data-places k l))
-    ∙ sum-bits 16 d h
-
-whole : (rows : List ℕ) → length rows ≡ 8 → ((r : ℕ) → getD rows r 0 < 2 ^ 8) → fields 8 8 (joined 8 rows) ≡ rows
-whole rows n h = fields-joined 8 8 rows n h
-
--- the grids of 0 and 1
-sixteen-apart : dist (codeword 0) (codeword 1) ≡ 16
-unfolding codeword dist ones
-sixteen-apart = dist-fields 8 8 (codeword 0) (codeword 1) (lit< tt) (lit< tt)
-
--- two codewords are 16 places apart or more, and some no more
-states : {radius places n : ℕ} → radius ≡ 7 → places ≡ 64 → n ≤ 16 → 16 ≤ n → States gridCode radius places n
-states p q l h = record {
-  radius-is = p;
-  places-are = q;
-  fits = codeword-lt;
-  apart = λ d e hd he ne. le-trans l (distance d e hd he ne);
-  reached = (0, 1, lit< tt, lit< tt, (λ e. absurd (omega arith)), sixteen-apart ∙ le-antisymm h l);
-}
-
-pub promised : GridPromises
-promised = record {
-  places = λ g r c hr hc. sym (bit-fields 8 8 g r c hr hc);
-  there-and-back = joined-fields 8 8;
-  back-and-there = whole;
-  meets = is-codeword;
-  one-solution = one-solution;
-  one-value = one-value;
-  data-places = data-is;
-  constants = states refl refl (lit≤ tt) (lit≤ tt);
-  verdicts = every-code gridCode .promises 16 distance (lit< tt);
-  eight-are-lost = every-code gridCode .one-more-is-lost 16 distance (lit≤ tt);
-}
-
--- ---- the decoder's answer
+use Rattle.grid_code.proofs.Promises.{promised}
+use Rattle.grid_code.proofs.Distance.{codeword-lt}
 
 module _ (rows : List ℕ) (r : Answer) (h : Decoded rows r) where
   numbers : (numberOf (r .verdict) ≡ 0) ⊎ (numberOf (r .verdict) ≡ 1)
@@ -78,7 +34,7 @@ module _ (rows : List ℕ) (r : Answer) (h : Decoded rows r) where
       go tie e = absurd (promised .verdicts .no-tie (joined 8 rows) (sym e))
 
   as-read : length rows ≡ 8 → ((i : ℕ) → getD rows i 0 < 2 ^ 8) → numberOf (r .verdict) ≢ 0 → r .grid .rows ≡ rows
-  as-read n small refused = h .repaired ∙ go (means (r .verdict)) (h .answer) refused ∙ whole rows n small
+  as-read n small refused = h .repaired ∙ go (means (r .verdict)) (h .answer) refused ∙ fields-joined 8 8 rows n small
     where
       go : (v : Verdict) → v ≡ verdict gridCode (joined 8 rows) → refusal 1 v ≢ 0
           → fields 8 8 (scrubbed gridCode (joined 8 rows)) ≡ fields 8 8 (joined 8 rows)

@@ -17,17 +17,13 @@ use Rattle.codes.specs.Verdict.{Verdict, clean, mended, lost, tie, answered, ve
 use Rattle.codes.specs.Tally.{isClean}
 use Rattle.codes.proofs.Promises.{none-near, found, clean-word}
 use Rattle.codes.proofs.Tally.{clean-of}
-use Rattle.grid.specs.Code.{codeword, gridCode}
+use Rattle.grid_code.specs.Code.{codeword, gridCode}
 use Rattle.grid.specs.Calls.{Judged, Decoded}
-use Rattle.grid.specs.Steps.{Nearby}
+use Rattle.grid_trials.specs.Steps.{Nearby}
 use Rattle.grid.specs.declared.Verdict.the-variants.{Clean, Mended, Lost}
-use Rattle.grid.proofs.Distance.{distance}
-use Rattle.grid.proofs.Decoder.{gather, gather-lt, gathered, gather-back}
-use Rattle.grid.proofs.Promises.{promised}
-
--- the data places tell the data
-same-data : (d e : ℕ) → d < 2 ^ 16 → e < 2 ^ 16 → bitAnd (codeword d) 0x0F0F_0F0F ≡ bitAnd (codeword e) 0x0F0F_0F0F → d ≡ e
-same-data d e p q s = sym (gather-back d p) ∙ ap (gather .at) s ∙ gather-back e q
+use Rattle.grid_code.proofs.Distance.{distance}
+use Rattle.grid_code.proofs.Places.{gather, gather-lt, gathered, same-data}
+use Rattle.grid_code.proofs.Promises.{promised}
 
 some-flips : (d n : ℕ) → n ≢ 0 → answered d n ≡ mended d n
 some-flips d zero h = absurd (h refl)
@@ -48,9 +44,9 @@ module _ (rows : List ℕ) (eight : length rows ≡ 8) (small : Below 8 rows) (w
 
   -- ---- clean
 
-  pub judged : (places number : ℕ) → places ≡ bitAnd word 0x0F0F_0F0F
+  pub is-judged : (places number : ℕ) → places ≡ bitAnd word 0x0F0F_0F0F
       → ((d : ℕ) → d < 2 ^ 16 → places ≡ bitAnd (codeword d) 0x0F0F_0F0F → number ≡ codeword d) → word < 2 ^ 64 → Judged rows (eqb number word)
-  judged places number taken completed fits = record { answer = go (verdict gridCode (joined 8 rows)) refl }
+  is-judged places number taken completed fits = record { answer = go (verdict gridCode (joined 8 rows)) refl }
     where
       -- a word that is the grid of its data places is clean
       none : {v : Verdict} → verdict gridCode (joined 8 rows) ≡ v → isClean v ≡ 0 → number ≡ word → ⊥

@@ -1,6 +1,3 @@
-pub mod Equations
-pub mod Code
 pub mod Answer
 pub mod Calls
 pub mod Promises
-pub mod Steps

@@ -15,21 +15,17 @@
 // at least, and up to seven flips leave a grid nearer to what was written than to the grid of any other value.
 //
 // The decoder puts each row right, sets aside those that it cannot be sure of, and lets the columns
-// decide (rows, columns, trial). What it hands out it has counted: a codeword within seven places.
+// decide (crate grid_trials). What it hands out it has counted: a codeword within seven places.
 //
-// specs/Equations.antt has the parities, specs/Calls.antt what each call promises, and
-// specs/Promises.antt what is proved of the code. As a number a grid has row r in byte r, lowest
+// The crate grid_code has the parities and what is proved of the code, specs/Calls.antt what each call
+// promises, and specs/Promises.antt what is proved of the calls. As a number a grid has row r in byte r, lowest
 // byte first, and place c of a row in bit c.
 ghost use mathlib.Core.Path.{_≡_};
 ghost use Prim.Native.Nat.{_+_, _*_, _%_, _^_, _<_};
 ghost use Rattle.codes.specs.Promises.{States};
-ghost use Rattle.grid.specs.Code.{gridCode};
+ghost use Rattle.grid_code.specs.Code.{gridCode};
 ghost use Rattle.grid.specs.Calls.{Encoded, Numbered, Parted, Judged, Decoded};
-
-mod columns;
-mod places;
-mod rows;
-mod trial;
+use grid_trials::rows;
 
 pub struct Grid {
     pub rows: [u8; 8],
@@ -75,7 +71,7 @@ impl Grid {
         ensures { λ r. ⌜ Encoded value (r .rows) ⌝ }
         ensures constants { λ r. do ⌜ States gridCode (← ⟦Grid::RADIUS⟧ .entry) (← ⟦Grid::LENGTH⟧ .entry) (← ⟦Grid::DISTANCE⟧ .entry) ⌝ }
     {
-        Grid::of_number(places::completed(places::data_places(value)))
+        Grid::of_number(grid_code::completed(grid_code::data_places(value)))
     }
 
     // The grid as a number.
@@ -122,7 +118,7 @@ impl Grid {
         ensures { λ r. ⌜ Judged (self .rows) r ⌝ }
     {
         let word = self.number();
-        places::completed(places::places_of(word)) == word
+        grid_code::completed(grid_code::places_of(word)) == word
     }
 
     // The verdict on a grid that was read, whatever was done to it, by the trials.
@@ -130,7 +126,11 @@ impl Grid {
         ensures { λ r. ⌜ Decoded (self .rows) r ⌝ }
     {
         let rows = self.rows;
-        let near = trial::nearest(rows);
+        let word = self.number();
+        let mended = Grid {
+            rows: rows::mended(rows),
+        };
+        let near = grid_trials::nearest(word, mended.number());
         let flips = near.flips;
         if Grid::RADIUS < flips {
             return Answer {
@@ -138,7 +138,7 @@ impl Grid {
                 grid: self,
             };
         }
-        let data = places::data_of(places::places_of(near.number));
+        let data = grid_code::data_of(grid_code::places_of(near.number));
         let grid = Grid::of_number(near.number);
         if flips == 0 {
             return Answer {
@@ -157,7 +157,7 @@ impl Grid {
         ensures { λ r. ⌜ Decoded (self .rows) r ⌝ }
     {
         if self.is_clean() {
-            let value = places::data_of(places::places_of(self.number()));
+            let value = grid_code::data_of(grid_code::places_of(self.number()));
             return Answer {
                 verdict: Verdict::Clean(value),
                 grid: self,

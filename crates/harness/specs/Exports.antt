@@ -4,7 +4,7 @@ use mathlib.Core.List.{List, map}
 use Prim.Native.Nat.{ℕ, _+_, _*_}
 use lib.ListN.{length}
 use Rattle.codes.specs.Verdict.{Verdict, clean, mended, lost, tie, verdict, scrubbed}
-use Rattle.grid.specs.Code.{gridCode}
+use Rattle.grid_code.specs.Code.{gridCode}
 
 -- a verdict as one number: the data, the flips from bit 16 on, document 01's number from bit 24 on
 abbrev pub packed : Verdict → ℕ

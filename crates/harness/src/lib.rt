@@ -3,7 +3,7 @@
 ghost use mathlib.Core.Path.{_≡_};
 ghost use lib.ListN.{getD};
 ghost use Rattle.words.specs.Fields.{fields};
-ghost use Rattle.grid.specs.Equations.{Codeword};
+ghost use Rattle.grid_code.specs.Equations.{Codeword};
 ghost use Rattle.grid.specs.Answer.{means};
 ghost use Rattle.harness.specs.Exports.{packed, Decoding};
 use grid::Grid;

@@ -32,8 +32,11 @@ firstBad [] = 0
 firstBad (b ∷ bytes) = choose (titleByte b) (suc (firstBad bytes)) 0
 
 -- 01 title: 1 to 24 bytes, each 20 to 7E hex.
+abbrev pub titleLength : ℕ → Bool
+titleLength n = leb 1 n && leb n 24
+
 abbrev pub isTitle : List ℕ → Bool
-isTitle bytes = leb 1 (length bytes) && leb (length bytes) 24 && eqb (firstBad bytes) (length bytes)
+isTitle bytes = titleLength (length bytes) && eqb (firstBad bytes) (length bytes)
 
 -- 02 grids: a length of 0 to 4,096, a multiple of 8.
 abbrev pub isGrids : ℕ → Bool

@@ -14,13 +14,13 @@ use Rattle.codes.specs.Verdict.{clean, mended, lost, verdict, repaired, scrubbe
 use Rattle.codes.specs.Tally.{sumBy, TallyPromises}
 use Rattle.codes.proofs.Promises.{clean-word}
 use Rattle.codes.proofs.Tally.{tallies}
-use Rattle.grid.specs.Code.{gridCode}
-use Rattle.grid.proofs.Promises as grid
+use Rattle.grid_code.specs.Code.{gridCode}
+use Rattle.grid_code.proofs.Promises as grid
 use Rattle.page.specs.declared.Tally.{Tally}
 use Rattle.page.specs.declared.Outcome.{Outcome}
 use Rattle.page.specs.declared.Outcome.the-variants.{Done, Length}
 use Rattle.page.specs.Calls.{tallyOf, Scrubbed, numberOf}
-use Rattle.page.specs.Promises.{Again, PagePromises}
+use Rattle.page.specs.Promises.{Again, PagePromises, OneOutcome}
 
 -- ---- both sides of the limit
 
@@ -110,5 +110,7 @@ promised = record {
   sum = sum;
   again = again;
   empty = empty;
-  one-outcome = λ page a b r s p q. (p .answer ∙ sym (q .answer), p .after ∙ sym (q .after));
 }
+
+pub one-outcome : OneOutcome
+one-outcome = record { scrub = λ page a b r s p q. (p .answer ∙ sym (q .answer), p .after ∙ sym (q .after)) }

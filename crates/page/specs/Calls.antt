@@ -7,7 +7,7 @@ use lib.ListN.{length}
 use Rattle.words.specs.Word.{choose}
 use Rattle.codes.specs.Verdict.{flipsOf, scrubbed}
 use Rattle.codes.specs.Tally.{isClean, isMended, isLost, sumBy}
-use Rattle.grid.specs.Code.{gridCode}
+use Rattle.grid_code.specs.Code.{gridCode}
 use Rattle.page.specs.declared.Tally.{Tally}
 use Rattle.page.specs.declared.Outcome.{Outcome}
 use Rattle.page.specs.declared.Outcome.the-variants.{Done, Length}

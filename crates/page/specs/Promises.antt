@@ -1,10 +1,10 @@
--- What is proved of a page's scrub (`promised`). Assumes nothing.
+-- What is proved of a page's scrub (`promised`, `one-outcome`). Assumes nothing.
 use mathlib.Core.Path.{_≡_}
 use mathlib.Core.List.{List, []}
 use Prim.Native.Nat.{ℕ, _+_, _≤_, _<_}
 use lib.ListN.{length, getD}
 use Rattle.codes.specs.Verdict.{clean, mended, lost, tie, verdict, scrubbed}
-use Rattle.grid.specs.Code.{codeword, gridCode}
+use Rattle.grid_code.specs.Code.{codeword, gridCode}
 use Rattle.page.specs.declared.Tally.{Tally}
 use Rattle.page.specs.declared.Outcome.{Outcome}
 use Rattle.page.specs.declared.Outcome.the-variants.{Done}
@@ -39,5 +39,7 @@ pub record PagePromises : Type 0 where
   -- An empty page gives five zeros.
   pub empty : (exit : List ℕ) (r : Outcome) → Scrubbed [] r exit
       → (r ≡ Done (record { grids = 0; clean = 0; mended = 0; lost = 0; flips = 0 })) × (exit ≡ [])
-  -- No second outcome satisfies the statement.
-  pub one-outcome : (page a b : List ℕ) (r s : Outcome) → Scrubbed page r a → Scrubbed page s b → (r ≡ s) × (a ≡ b)
+
+-- No second outcome satisfies the statement of the call.
+pub record OneOutcome : Type 0 where
+  pub scrub : (page a b : List ℕ) (r s : Outcome) → Scrubbed page r a → Scrubbed page s b → (r ≡ s) × (a ≡ b)

@@ -1,13 +1,14 @@
 -- Words of k bytes in a list of bytes, and back: each undoes the other, and a loop goes from word to word. A list laid over the front of
 -- another: place by place, part by part. Assumes nothing.
 use mathlib.Core.Path.{_≡_, refl, sym, ap, ap₂, _∙_, subst}
-use mathlib.Core.List.{List, [], _∷_, _++_, append-assoc, append-nil}
+use mathlib.Core.List.{List, [], _∷_, _++_, map, append-assoc, append-nil}
 use Prim.Native.Nat.{ℕ, zero, suc, _+_, _-_, _*_, _^_, _≤_, _<_}
-use native.Mathlib.Nat.{mul-suc, mul-zero, add-comm}
+use native.Mathlib.Nat.{mul-suc, mul-zero, add-comm, suc-add, zero-add}
+use native.Mathlib.Numerals.{add-one}
 use native.Mathlib.Omega.{arith}
 use lib.ListN.{length, getD, set, take, drop, length-append, length-drop, take-append-drop, drop-of-length-le}
 use lib.Pow.{pow-pos}
-use lib.Seq.{length-take-le, take-at, drop-at, drop-drop, take-all, drop-cons, set-at, append-snoc, getD-drop}
+use lib.Seq.{take-append-le, drop-append-le, length-take-le, take-at, drop-at, drop-drop, take-all, drop-cons, set-at, append-snoc, getD-drop}
 use Rattle.words.specs.Fields.{fields, joined, Below}
 use Rattle.words.specs.Bytes.{wordsIn, bytesOf, laid}
 use Rattle.words.proofs.Fields.{length-fields, fields-joined, joined-fields, joined-lt}
@@ -26,14 +27,33 @@ length-bytes k (w ∷ ws) =
     length-append (fields 8 k w) (bytesOf k ws) ∙ ap₂ _+_ (length-fields 8 k w) (length-bytes k ws)
     ∙ sym (mul-suc k (length ws) ∙ add-comm (k * length ws) k)
 
+words-append : (k m n : ℕ) (bytes : List ℕ) → wordsIn k (m + n) bytes ≡ wordsIn k m bytes ++ wordsIn k n (drop (k * m) bytes)
+unfolding wordsIn
+words-append k zero n bytes = ap₂ (λ (a b : ℕ). wordsIn k a (drop b bytes)) (zero-add n) (sym (mul-zero k))
+words-append k (suc m) n bytes =
+    ap (λ (j : ℕ). wordsIn k j bytes) (suc-add m n)
+    ∙ ap {B = List ℕ} (λ l. joined 8 (take k bytes) ∷ l)
+    (words-append k m n (drop k bytes)
+    ∙ ap (λ l. wordsIn k m (drop k bytes) ++ wordsIn k n l)
+    (drop-drop (k * m) k bytes ∙ ap (λ (j : ℕ). drop j bytes) (add-comm k (k * m) ∙ sym (mul-suc k m))))
+
+-- the words of a front
+words-front : (k m : ℕ) (a b : List ℕ) → length a ≡ k * m → wordsIn k m (a ++ b) ≡ wordsIn k m a
+unfolding wordsIn
+words-front k zero a b e = refl
+words-front k (suc m) a b e =
+    let l : k ≤ length a = omega (arith, e, mul-suc k m) in
+    ap₂ {C = List ℕ} (λ (x y : List ℕ). joined 8 x ∷ wordsIn k m y) (take-append-le k a b l) (drop-append-le k a b l)
+    ∙ ap {B = List ℕ} (λ l. joined 8 (take k a) ∷ l) (words-front k m (drop k a) b (omega (arith, e, mul-suc k m, length-drop k a)))
+
+pub words-two : (k m n : ℕ) (a b : List ℕ) → length a ≡ k * m → wordsIn k (m + n) (a ++ b) ≡ wordsIn k m a ++ wordsIn k n b
+words-two k m n a b e =
+    words-append k m n (a ++ b)
+    ∙ ap₂ {C = List ℕ} (λ (x y : List ℕ). x ++ y) (words-front k m a b e) (ap (wordsIn k n) (drop-at a b (k * m) e))
+
 pub words-suc : (k n : ℕ) (bytes : List ℕ) → wordsIn k (suc n) bytes ≡ wordsIn k n bytes ++ (joined 8 (take k (drop (k * n) bytes)) ∷ [])
 unfolding wordsIn
-words-suc k zero bytes = ap (λ (m : ℕ). joined 8 (take k (drop m bytes)) ∷ []) (sym (mul-zero k))
-words-suc k (suc n) bytes =
-    ap (λ l. joined 8 (take k bytes) ∷ l)
-    (words-suc k n (drop k bytes)
-    ∙ ap (λ l. wordsIn k n (drop k bytes) ++ (joined 8 (take k l) ∷ []))
-    (drop-drop (k * n) k bytes ∙ ap (λ (m : ℕ). drop m bytes) (add-comm k (k * n) ∙ sym (mul-suc k n))))
+words-suc k n bytes = ap (λ (m : ℕ). wordsIn k m bytes) (sym (add-one n)) ∙ words-append k n 1 bytes
 
 pub bytes-append : (k : ℕ) (ws vs : List ℕ) → bytesOf k (ws ++ vs) ≡ bytesOf k ws ++ bytesOf k vs
 unfolding bytesOf
@@ -54,6 +74,11 @@ below-take k (suc n) (x ∷ xs) h (suc i) = below-take k n xs (λ j. h (suc j)) 
 
 pub below-drop : (k n : ℕ) (xs : List ℕ) → Below k xs → Below k (drop n xs)
 below-drop k n xs h i = subst (λ (m : ℕ). m < 2 ^ k) (sym (getD-drop n xs i 0)) (h (n + i))
+
+pub below-map : (j k : ℕ) (f : ℕ → ℕ) → ((w : ℕ) → w < 2 ^ j → f w < 2 ^ k) → (ws : List ℕ) → Below j ws → Below k (map f ws)
+below-map j k f h [] b i = pow-pos k
+below-map j k f h (w ∷ ws) b zero = h w (b 0)
+below-map j k f h (w ∷ ws) b (suc i) = below-map j k f h ws (λ i. b (suc i)) i
 
 pub bytes-words : (k n : ℕ) (bytes : List ℕ) → length bytes ≡ k * n → Below 8 bytes → bytesOf k (wordsIn k n bytes) ≡ bytes
 unfolding wordsIn bytesOf

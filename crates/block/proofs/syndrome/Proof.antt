@@ -3,7 +3,7 @@ use mathlib.Core.Path.{ap₂, _∙_}
 use mathlib.Core.List.{List}
 use Prim.Native.Nat.{ℕ}
 use native.Mathlib.Omega.{arith}
-use Rattle.block.specs.Steps.{mixed}
+use Rattle.block_code.specs.Checks.{mixed}
 use Rattle.block.proofs.Outcomes.{syndrome-is}
 use borrow.Author.Needs.{needs}
 use Rattle.block.proofs.syndrome.Statement.{statement}

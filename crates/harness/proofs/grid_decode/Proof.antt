@@ -10,7 +10,7 @@ use Rattle.words.specs.Bytes.{laid}
 use Rattle.words.proofs.Bytes.{laid-none, laid-all}
 use Rattle.words.proofs.Turns.{map-turn}
 use Rattle.codes.specs.Verdict.{verdict, scrubbed}
-use Rattle.grid.specs.Code.{gridCode}
+use Rattle.grid_code.specs.Code.{gridCode}
 use Rattle.grid.proofs.Numbers.{decoded-verdict, decoded-number}
 use Rattle.harness.specs.Exports.{packed, decodes, stays}
 use borrow.Author.Needs.{needs}

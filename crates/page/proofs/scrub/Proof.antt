@@ -14,7 +14,7 @@ use Rattle.words.specs.Word.{choose}
 use Rattle.words.proofs.Lists.{partly, partly-none, partly-all, set-same}
 use Rattle.codes.specs.Verdict.{scrubbed}
 use Rattle.codes.specs.Tally.{sumBy}
-use Rattle.grid.specs.Code.{gridCode}
+use Rattle.grid_code.specs.Code.{gridCode}
 use Rattle.page.specs.Calls.{tallyOf}
 use Rattle.page.specs.declared.Outcome.the-variants.{Done, Length}
 use Rattle.page.proofs.Laws.{turn-page, turn-tally, turn-roomy}
@@ -32,7 +32,7 @@ abbrev μ-loop : tie.MeasureT-loop
 returns : tie.Need-returns Inv-loop μ-loop
 returns c =
     let p : List ℕ = now (c .before .before .args .page) in
-    let more : leb (length p) 512 ≡ false = lt-leb (length p) 512 (c .if1 .taken) in
+    let more : leb (length p) 512 ≡ false = lt-leb (length p) 512 (omega (arith, c .if1 .taken)) in
     record {
       answer = sym (ap (λ (b : Bool). choose b (Done (tallyOf p)) Length) more);
       after = sym (ap {B = List ℕ} (λ (b : Bool). choose b (map (scrubbed gridCode) p) p) more);

@@ -6,9 +6,9 @@ use Prim.Native.Nat.{ℕ, _^_, _<_}
 use native.Mathlib.Omega.{arith}
 use lib.ListN.{length}
 use lib.Seq.{sets, take-all}
-use Rattle.block.specs.Steps.{saidBy, checkWords}
-use Rattle.block.specs.declared.checks.Checks.{Checks}
-use Rattle.block.proofs.Distance.{constants}
+use Rattle.block_code.specs.Checks.{saidBy, checkWords}
+use Rattle.block_code.specs.declared.Checks.{Checks}
+use Rattle.block_code.proofs.Distance.{constants}
 use Rattle.block.proofs.Outcomes.{small, encoded, not-encoded}
 use borrow.Author.Needs.{needs}
 use Rattle.block.proofs.Block.encode.Statement.{statement}

@@ -3,7 +3,7 @@ use mathlib.Core.Path.{refl, sym, _∙_, subst}
 use mathlib.Core.List.{List}
 use Prim.Native.Nat.{ℕ}
 use native.Mathlib.Omega.{arith}
-use Rattle.block.specs.Steps.{IsNone}
+use Rattle.block_code.specs.Checks.{IsNone}
 use Rattle.block.proofs.Outcomes.{other-length, is-clean}
 use borrow.Author.Needs.{needs}
 use Rattle.block.proofs.Block.scrub.Statement.{statement}

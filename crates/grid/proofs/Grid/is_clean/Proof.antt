@@ -4,7 +4,7 @@ use Prim.Native.Nat.{ℕ, _^_, _<_}
 use lib.ListN.{getD}
 use mir.Syntax.{w8}
 use mir.Val.{Fits}
-use Rattle.grid.proofs.Verdicts.{judged}
+use Rattle.grid.proofs.Verdicts.{is-judged}
 use borrow.Author.Needs.{needs}
 use Rattle.grid.proofs.Grid.is_clean.Statement.{statement}
 use Rattle.grid.proofs.Grid.is_clean.Tie as tie
@@ -14,7 +14,7 @@ returns c =
     let rows : List ℕ = c .before .before .before .args .self .rows in
     let small : (i : ℕ) → Fits w8 (getD rows i 0) = λ i. search needs in
     let fits : c .before .before .number .result < 2 ^ 64 = search needs in
-    judged rows (search needs) (λ i. small i .fits) (c .before .before .number .result) (c .before .before .number .ensures .answer)
+    is-judged rows (search needs) (λ i. small i .fits) (c .before .before .number .result) (c .before .before .number .ensures .answer)
     (c .before .places-of .result) (c .completed .result) (c .before .places-of .ensures) (c .completed .ensures) fits
 
 pub is-clean-spec : {M : Type 1} → statement M

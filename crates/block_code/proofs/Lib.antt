@@ -1,0 +1,8 @@
+pub mod Stack
+pub mod Mixing
+pub mod Syndromes
+pub mod Places
+pub mod Sums
+pub mod Equations
+pub mod Distance
+pub mod Promises

@@ -1,0 +1,4 @@
+pub mod Equations
+pub mod Code
+pub mod Promises
+pub mod Checks

@@ -1,0 +1,2 @@
+pub mod Guessing
+pub mod Search

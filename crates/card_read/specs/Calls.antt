@@ -1,0 +1,41 @@
+-- What the call promises: one record, which determines the answer and every place of every lent slice. The order of the refusals is one
+-- definition, for the answer and for the memory. Assumes nothing.
+use mathlib.Core.Path.{_≡_}
+use mathlib.Core.Bool.{Bool, _&&_}
+use mathlib.Core.List.{List, map}
+use Prim.Native.Nat.{ℕ}
+use lib.Dec.{leb}
+use lib.ListN.{length}
+use Rattle.words.specs.Word.{choose}
+use Rattle.words.specs.Bytes.{laid}
+use Rattle.codes.specs.Verdict.{verdict}
+use Rattle.grid_code.specs.Code.{gridCode}
+use Rattle.image.specs.Card.{Card, gridsIn}
+use Rattle.image.specs.Calls.{judged}
+use Rattle.card_read.specs.declared.ReadAnswer.{ReadAnswer}
+use Rattle.card_read.specs.declared.ReadAnswer.the-variants.{Done, Length, Broken, Room}
+use Rattle.card_read.specs.Answer.{dataShown, flipsShown}
+
+-- room for the title, for each grid's data and for its flips
+abbrev pub roomFor : Card → List ℕ → List ℕ → List ℕ → Bool
+roomFor c title numbers flips =
+    leb (length (c .title)) (length title) && leb (length (gridsIn (c .parts))) (length numbers)
+    && leb (length (gridsIn (c .parts))) (length flips)
+
+-- 3, then 4, then 6
+abbrev pub readAs : {A : Type 0} → List ℕ → List ℕ → List ℕ → List ℕ → A → (ℕ → A) → A → (Card → A) → A
+readAs image title numbers flips long breaks short whole = judged image long breaks
+    (λ c. choose (roomFor c title numbers flips) (whole c) short)
+
+-- `card::read`: the title's length and the number of grids, over all grids fields in order. The title goes to the front of one slice, each
+-- grid's data and flips to the front of two others; places behind stay untouched. A refused call writes nothing.
+pub record Read (image title numbers flips : List ℕ) (r : ReadAnswer) (title′ numbers′ flips′ : List ℕ) : Type 0 where
+  pub answer : r ≡ readAs image title numbers flips Length Broken Room
+      (λ c. Done (length (c .title)) (length (gridsIn (c .parts))))
+  pub title-after : title′ ≡ readAs image title numbers flips title (λ at. title) title (λ c. laid (c .title) title)
+  pub numbers-after : numbers′
+      ≡ readAs image title numbers flips numbers (λ at. numbers) numbers
+      (λ c. laid (map (λ w. dataShown (verdict gridCode w)) (gridsIn (c .parts))) numbers)
+  pub flips-after : flips′
+      ≡ readAs image title numbers flips flips (λ at. flips) flips
+      (λ c. laid (map (λ w. flipsShown (verdict gridCode w)) (gridsIn (c .parts))) flips)

@@ -1,0 +1,2 @@
+pub mod Scrubs
+pub mod Parts

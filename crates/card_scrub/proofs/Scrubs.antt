@@ -1,0 +1,237 @@
+-- What a scrub makes of the grids and of the block in a value. Assumes nothing.
+use mathlib.Core.Path.{_≡_, refl, sym, ap, ap₂, _∙_, subst}
+use mathlib.Core.Logic.{⊎-elim}
+use mathlib.Core.Bool.{Bool}
+use mathlib.Core.List.{List, [], _∷_, _++_, map, map-append, append-nil}
+use Prim.Native.Nat.{ℕ, zero, suc, _+_, _-_, _*_, _/_, _%_, _^_, _≤_, _<_}
+use native.Mathlib.Nat.{add-zero, mul-zero, mul-suc, suc-add, add-comm, zero-add}
+use native.Mathlib.Omega.{arith}
+use lib.ListN.{length, take, drop, length-append, length-map, length-drop, take-append-drop, drop-of-length-le}
+use lib.Seq.{drop-drop, take-append-le, drop-append-le, take-at, drop-at, length-take-le}
+use types.Run.{OneOf}
+use denote.Enum.Declared.{tagOf}
+use borrow.Author.Tests.{eq-eqb}
+use Rattle.words.specs.Word.{choose}
+use Rattle.words.specs.Fields.{fields, joined, Below}
+use Rattle.words.specs.Bytes.{wordsIn, bytesOf}
+use Rattle.words.proofs.Fields.{length-fields, fields-joined}
+use Rattle.words.proofs.Lists.{part-behind}
+use Rattle.words.proofs.Bytes.{length-words, words-two, bytes-append, bytes-words, words-below}
+use Rattle.codes.specs.Verdict.{Verdict, clean, mended, lost, tie, verdict, scrubbed, repaired, flipsOf}
+use Rattle.codes.specs.Tally.{isClean, isMended, isLost, sumBy, TallyPromises}
+use Rattle.codes.proofs.Tally.{unmended, sum-append, tallies}
+use Rattle.codes.proofs.Promises.{clean-word}
+use Rattle.grid_code.specs.Code.{gridCode}
+use Rattle.block_code.specs.Code.{blockCode}
+use Rattle.block.specs.Answer.{answerOf}
+use Rattle.block.specs.Calls as block
+use Rattle.block.specs.declared.Outcome.{Outcome}
+use Rattle.block.specs.declared.Outcome.the-variants.{Clean, Mended, Lost, Tie, Length}
+use Rattle.block.proofs.Outcome.{the-type}
+use Rattle.block_code.proofs.Promises as blocks
+use Rattle.grid_code.proofs.Promises as grid
+use Rattle.page.specs.declared.Tally.{Tally}
+use Rattle.page.specs.declared.Outcome.the-variants.{Done}
+use Rattle.page.specs.Calls.{tallyOf, Scrubbed}
+use Rattle.page.proofs.Promises.{laws, promised, counted}
+use Rattle.card_scrub.specs.declared.Blocks.{Blocks}
+use Rattle.card_scrub.specs.Calls.{blockTally}
+use Rattle.card_scrub.specs.Steps.{bothGrids, RoomyGrids, RoomyBlocks, ScrubbedGrids, ScrubbedBlock}
+
+-- ---- a scrub that mends nothing changes nothing
+
+none-mended : (ws : List ℕ) → sumBy gridCode isMended ws ≡ 0 → map (scrubbed gridCode) ws ≡ ws
+unfolding sumBy
+none-mended [] e = refl
+none-mended (w ∷ ws) e =
+    ap₂ {C = List ℕ} (λ (x : ℕ) (xs : List ℕ). x ∷ xs) (unmended gridCode (grid.promised .verdicts) w (omega (arith, e))) (none-mended ws (omega (arith, e)))
+
+-- ---- by way of a page
+
+module _ (value page after : List ℕ) (n : ℕ) (t : Tally) (fits : length value ≡ 8 * n) (bytes : Below 8 value)
+    (taken : page ≡ wordsIn 8 n value) (done : Scrubbed page (Done t) after) where
+  size : length value / 8 ≡ n
+  size = omega (arith, fits)
+
+  words : page ≡ wordsIn 8 (length value / 8) value
+  words = taken ∙ ap (λ (n : ℕ). wordsIn 8 n value) (sym size)
+
+  tally : t ≡ tallyOf (wordsIn 8 (length value / 8) value)
+  tally = counted page after t done .1 ∙ ap tallyOf words
+
+  still : length value ≡ 8 * length after
+  still = fits ∙ ap (λ n. 8 * n) (sym (ap length (counted page after t done .2 ∙ ap (map (scrubbed gridCode)) taken)
+      ∙ length-map (wordsIn 8 n value) (scrubbed gridCode) ∙ length-words 8 n value))
+
+  pub page-written : (exit : List ℕ) → (length value ≡ 8 * length after → exit ≡ bytesOf 8 after) → ScrubbedGrids value t exit
+  page-written exit e = record {
+    answer = tally;
+    after = e still ∙ ap (bytesOf 8) (counted page after t done .2 ∙ ap (map (scrubbed gridCode)) words);
+  }
+
+  pub page-kept : t .mended ≡ 0 → ScrubbedGrids value t value
+  page-kept z =
+      let ws = wordsIn 8 (length value / 8) value in
+      let none : sumBy gridCode isMended ws ≡ 0 = sym (ap (λ t. t .mended) tally) ∙ z in
+      record {
+        answer = tally;
+        after = sym (ap (bytesOf 8) (none-mended ws none) ∙ bytes-words 8 (length value / 8) value (omega (arith, fits)) bytes);
+      }
+
+-- ---- two parts of a value
+
+pub tally-two : (a b : List ℕ) → tallyOf (a ++ b) ≡ bothGrids (tallyOf a) (tallyOf b)
+tally-two a b = λ i. record {
+  grids = length-append a b i;
+  clean = sum-append gridCode isClean a b i;
+  mended = sum-append gridCode isMended a b i;
+  lost = sum-append gridCode isLost a b i;
+  flips = sum-append gridCode flipsOf a b i;
+}
+
+-- both scrubbed, each by itself
+pub grids-two : (a b a′ b′ : List ℕ) (r s : Tally) → length a % 8 ≡ 0 → length b % 8 ≡ 0
+    → ScrubbedGrids a r a′ → ScrubbedGrids b s b′ → ScrubbedGrids (a ++ b) (bothGrids r s) (a′ ++ b′)
+grids-two a b a′ b′ r s p q x y =
+    let m : ℕ = length a / 8 in
+    let n : ℕ = length b / 8 in
+    let e : length (a ++ b) / 8 ≡ m + n = omega (arith, length-append a b) in
+    let ws : wordsIn 8 (length (a ++ b) / 8) (a ++ b) ≡ wordsIn 8 m a ++ wordsIn 8 n b =
+    ap (λ (j : ℕ). wordsIn 8 j (a ++ b)) e ∙ words-two 8 m n a b (omega (arith, p)) in
+    record {
+      answer = ap₂ bothGrids (x .answer) (y .answer) ∙ sym (ap tallyOf ws ∙ tally-two (wordsIn 8 m a) (wordsIn 8 n b));
+      after =
+          ap₂ {C = List ℕ} (λ (c d : List ℕ). c ++ d) (x .after) (y .after)
+          ∙ sym (bytes-append 8 (map (scrubbed gridCode) (wordsIn 8 m a)) (map (scrubbed gridCode) (wordsIn 8 n b)))
+          ∙ ap (bytesOf 8) (sym (map-append (scrubbed gridCode) (wordsIn 8 m a) (wordsIn 8 n b)) ∙ ap (map (scrubbed gridCode)) (sym ws));
+    }
+
+-- the numbers of a tally are small
+pub grids-few : (k : ℕ) (ws vs : List ℕ) → length ws ≤ k → length vs ≤ k → 14 * k < 2 ^ 32 → RoomyGrids (tallyOf ws) (tallyOf vs)
+grids-few k ws vs p q h =
+    let few = laws .flips in
+    let all = laws .all in
+    record {
+      grids = omega arith;
+      clean = omega (arith, all ws, all vs);
+      mended = omega (arith, all ws, all vs);
+      lost = omega (arith, all ws, all vs);
+      flips = omega (arith, few ws, few vs);
+    }
+
+pub grids-roomy : (a b a′ b′ : List ℕ) (r s : Tally) → length a ≤ 32768 → length b ≤ 32768 → ScrubbedGrids a r a′ → ScrubbedGrids b s b′
+    → RoomyGrids r s
+grids-roomy a b a′ b′ r s l m x y =
+    let few = grids-few 4096 (wordsIn 8 (length a / 8) a) (wordsIn 8 (length b / 8) b) (omega (arith, length-words 8 (length a / 8) a))
+    (omega (arith, length-words 8 (length b / 8) b)) (omega arith) in
+    subst (λ r. RoomyGrids r s) (sym (x .answer)) (subst (RoomyGrids (tallyOf (wordsIn 8 (length a / 8) a))) (sym (y .answer)) few)
+
+-- the first n bytes, and what is lent behind them
+pub grids-parts : (n : ℕ) (v a′ b′ : List ℕ) (r s : Tally) → n ≤ length v → n % 8 ≡ 0 → length v % 8 ≡ 0 → length a′ ≡ n → ScrubbedGrids (take n v) r a′
+    → ScrubbedGrids (take (length (a′ ++ drop n v) - n) (drop n (a′ ++ drop n v))) s b′
+    → ScrubbedGrids v (bothGrids r s) (take n (a′ ++ drop n v) ++ (b′ ++ drop (length (a′ ++ drop n v) - n) (drop n (a′ ++ drop n v))))
+grids-parts n v a′ b′ r s l p q e x y =
+    let t = a′ ++ drop n v in
+    let behind : take (length t - n) (drop n t) ≡ drop n v = part-behind n t ∙ drop-at a′ (drop n v) n e in
+    let few : length (drop n t) ≤ length t - n = omega (arith, length-drop n t) in
+    let none : drop (length t - n) (drop n t) ≡ [] = drop-of-length-le (drop n t) few in
+    let whole : a′ ++ b′ ≡ take n t ++ (b′ ++ drop (length t - n) (drop n t)) =
+    sym (ap₂ {C = List ℕ} (λ (c d : List ℕ). c ++ d) (take-at a′ (drop n v) n e) (ap (λ d. b′ ++ d) none ∙ append-nil b′)) in
+    subst (λ w. ScrubbedGrids v (bothGrids r s) w) whole
+    (subst (λ w. ScrubbedGrids w (bothGrids r s) (a′ ++ b′)) (take-append-drop n v)
+    (grids-two (take n v) (drop n v) a′ b′ r s (omega (arith, p, length-take-le n v l)) (omega (arith, p, q, length-drop n v)) x
+    (subst (λ w. ScrubbedGrids w s b′) behind y)))
+
+-- ---- a block
+
+-- what a block's verdict counts, and what its answer does
+abbrev ofVerdict : Verdict → Blocks
+ofVerdict v = record { blocks = 1; clean = isClean v; mended = isMended v; lost = isLost v; flips = flipsOf v }
+
+abbrev pub ofAnswer : Outcome → Blocks
+ofAnswer Clean = record { blocks = 1; clean = 1; mended = 0; lost = 0; flips = 0 }
+ofAnswer (Mended n) = record { blocks = 1; clean = 0; mended = 1; lost = 0; flips = n }
+ofAnswer Lost = record { blocks = 1; clean = 0; mended = 0; lost = 1; flips = 0 }
+ofAnswer Tie = record { blocks = 1; clean = 0; mended = 0; lost = 1; flips = 0 }
+ofAnswer Length = record { blocks = 1; clean = 0; mended = 0; lost = 1; flips = 0 }
+
+-- as the last arm of a match has it
+pub not-mended : (r : Outcome) → OneOf (2 ∷ 3 ∷ 4 ∷ []) (tagOf the-type r)
+    → ofAnswer r ≡ record { blocks = 1; clean = 0; mended = 0; lost = 1; flips = 0 }
+not-mended Clean k = absurd (⊎-elim (λ e. omega (arith, e)) (⊎-elim (λ e. omega (arith, e)) (λ e. omega (arith, e))) k)
+not-mended (Mended n) k = absurd (⊎-elim (λ e. omega (arith, e)) (⊎-elim (λ e. omega (arith, e)) (λ e. omega (arith, e))) k)
+not-mended Lost k = refl
+not-mended Tie k = refl
+not-mended Length k = refl
+
+one-block : (w : ℕ) → blockTally (w ∷ []) ≡ ofVerdict (verdict blockCode w)
+unfolding sumBy
+one-block w = λ i. record {
+  blocks = 1;
+  clean = add-zero (isClean (verdict blockCode w)) i;
+  mended = add-zero (isMended (verdict blockCode w)) i;
+  lost = add-zero (isLost (verdict blockCode w)) i;
+  flips = add-zero (flipsOf (verdict blockCode w)) i;
+}
+
+answered : (v : Verdict) → ofAnswer (answerOf v) ≡ ofVerdict v
+answered (clean d) = refl
+answered (mended d n) = refl
+answered lost = refl
+answered tie = refl
+
+module _ (value words after : List ℕ) (r : Outcome) (fits : length value ≡ 76) (bytes : Below 8 value) (taken : words ≡ wordsIn 2 38 value)
+    (done : block.Scrubbed words r after) where
+  w : ℕ
+  w = joined 16 (wordsIn 2 38 value)
+
+  thirty-eight : length words ≡ 38
+  thirty-eight = ap length taken ∙ length-words 2 38 value
+
+  told : r ≡ answerOf (verdict blockCode w)
+  unfolding w
+  told =
+      done .answer ∙ ap (λ (b : Bool). choose b (answerOf (verdict blockCode (joined 16 words))) Length) (eq-eqb (length words) 38 thirty-eight)
+      ∙ ap (λ l. answerOf (verdict blockCode (joined 16 l))) taken
+
+  answer : ofAnswer r ≡ blockTally (w ∷ [])
+  answer = ap ofAnswer told ∙ answered (verdict blockCode w) ∙ sym (one-block w)
+
+  is-after : after ≡ fields 16 38 (scrubbed blockCode w)
+  unfolding w
+  is-after =
+      done .after
+      ∙ ap {B = List ℕ} (λ (b : Bool). choose b (fields 16 38 (scrubbed blockCode (joined 16 words))) words) (eq-eqb (length words) 38 thirty-eight)
+      ∙ ap (λ l. fields 16 38 (scrubbed blockCode (joined 16 l))) taken
+
+  pub words-written : (exit : List ℕ) → (length value ≡ 2 * length after → exit ≡ bytesOf 2 after) → ScrubbedBlock value (ofAnswer r) exit
+  unfolding w
+  words-written exit e = record {
+    answer = answer;
+    after = e (omega (arith, fits, ap length is-after, length-fields 16 38 (scrubbed blockCode w))) ∙ ap (bytesOf 2) is-after;
+  }
+
+  pub words-kept : ofAnswer r .mended ≡ 0 → ScrubbedBlock value (ofAnswer r) value
+  unfolding w
+  words-kept z = record {
+    answer = answer;
+    after =
+        sym (ap (λ (x : ℕ). bytesOf 2 (fields 16 38 x)) (unmended blockCode (blocks.promised .verdicts) w (sym (ap (λ t. t .mended) (ap ofAnswer told ∙ answered (verdict blockCode w))) ∙ z))
+        ∙ ap (bytesOf 2) (fields-joined 16 38 (wordsIn 2 38 value) (length-words 2 38 value) (words-below 2 38 value (omega (arith, fits)) bytes))
+        ∙ bytes-words 2 38 value fits bytes);
+  }
+
+pub block-laws : TallyPromises blockCode
+block-laws = tallies blockCode (blocks.promised .verdicts)
+
+pub blocks-few : (ws vs : List ℕ) → length ws ≤ 32768 → length vs ≤ 32768 → RoomyBlocks (blockTally ws) (blockTally vs)
+blocks-few ws vs p q =
+    let few = block-laws .flips in
+    let all = block-laws .all in
+    record {
+      blocks = omega arith;
+      clean = omega (arith, all ws, all vs);
+      mended = omega (arith, all ws, all vs);
+      lost = omega (arith, all ws, all vs);
+      flips = omega (arith, few ws, few vs);
+    }

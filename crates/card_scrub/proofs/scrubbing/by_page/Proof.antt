@@ -1,0 +1,51 @@
+-- `card_scrub::scrubbing::by_page` meets its contract. Assumes nothing.
+use mathlib.Core.Path.{ap, subst}
+use Prim.Native.Nat.{_≤_}
+use native.Mathlib.Omega.{arith}
+use lib.ListN.{length}
+use denote.Ref.{now}
+use Rattle.words.proofs.Bytes.{length-words}
+use Rattle.page.specs.Calls.{Scrubbed, numberOf}
+use Rattle.page.proofs.Promises.{promised}
+use Rattle.card_scrub.proofs.Scrubs.{page-written, page-kept}
+use borrow.Author.Needs.{needs}
+use Rattle.card_scrub.proofs.scrubbing.by_page.Statement.{statement}
+use Rattle.card_scrub.proofs.scrubbing.by_page.Tie as tie
+
+returns : tie.Need-returns
+returns c =
+    let x = c .before .before .before .before .before .before .before .before in
+    let scrub = x .before .before .before .before .scrub in
+    let grids = x .before .before .before .before .before .before .before .before .grids in
+    let s = x .before .before .before .before .before .before .before .before .before .before .before .before .before in
+    page-written (now (s .args .value)) (grids .last .1 .0) (scrub .last .0) (length (now (s .args .page))) (x .tally .given .0 .0) (s .pre .0)
+    (λ i. x .before .before .before .before .before .before .before .before .before .before .before .before .slice-known .given i .fits) (grids .ensures (s .pre .0))
+    (subst (λ r. Scrubbed (grids .last .1 .0) r (scrub .last .0)) (x .tally .given .1) (scrub .ensures)) (c .before .before .put-grids .last .0)
+    (c .before .before .put-grids .ensures)
+
+returns-2 : tie.Need-returns-2
+returns-2 c =
+    let x = c .before .before .before in
+    let scrub = x .before .before .before .before .scrub in
+    let grids = x .before .before .before .before .before .before .before .before .grids in
+    let s = x .before .before .before .before .before .before .before .before .before .before .before .before .before in
+    page-kept (now (s .args .value)) (grids .last .1 .0) (scrub .last .0) (length (now (s .args .page))) (x .tally .given .0 .0) (s .pre .0)
+    (λ i. x .before .before .before .before .before .before .before .before .before .before .before .before .slice-known .given i .fits) (grids .ensures (s .pre .0))
+    (subst (λ r. Scrubbed (grids .last .1 .0) r (scrub .last .0)) (x .tally .given .1) (scrub .ensures)) (omega arith)
+
+returns-3 : tie.Need-returns-3
+returns-3 c =
+    let x = c .before in
+    let scrub = x .before .before .before .before .scrub in
+    let grids = x .before .before .before .before .before .before .before .before .grids in
+    let s = x .before .before .before .before .before .before .before .before .before .before .before .before .before in
+    let few : length (grids .last .1 .0) ≤ 512 =
+    omega (arith, s .pre .1, ap length (grids .ensures (s .pre .0)), length-words 8 (length (now (s .args .page))) (now (s .args .value))) in
+    absurd (omega (arith, promised .accepted (grids .last .1 .0) (scrub .last .0) (scrub .result) few (scrub .ensures), ap numberOf (x .enum-told .given .1)))
+
+pub by-page-spec : {M : Type 1} → statement M
+by-page-spec =
+    tie.close
+    (tie.spec (λ c κs. search needs) (λ c κs. search needs) (λ c. search needs) (λ c κs. search needs) (λ c. search needs) (λ c κs. search needs)
+    (λ c. search needs) (λ c. search needs) returns (λ c. search needs) (λ c. search needs) returns-2 (λ c. search needs) (λ c. search needs)
+    returns-3)

@@ -1,0 +1,45 @@
+-- What the call promises: one record, which determines the answer and every place of every lent slice. One test of the
+-- image chooses for the answer and for the memory. Assumes nothing.
+use mathlib.Core.Path.{_≡_}
+use mathlib.Core.List.{List, map}
+use Prim.Native.Nat.{ℕ}
+use lib.ListN.{length}
+use Rattle.codes.specs.Verdict.{flipsOf, scrubbed}
+use Rattle.codes.specs.Tally.{isClean, isMended, isLost, sumBy}
+use Rattle.grid_code.specs.Code.{gridCode}
+use Rattle.block_code.specs.Code.{blockCode}
+use Rattle.page.specs.Calls.{tallyOf}
+use Rattle.image.specs.Card.{Part, grids, block, Card, gridsIn, blocksIn, imageOf}
+use Rattle.image.specs.Calls.{judged}
+use Rattle.card_scrub.specs.declared.Blocks.{Blocks}
+use Rattle.card_scrub.specs.declared.Tallies.{Tallies}
+use Rattle.card_scrub.specs.declared.ScrubAnswer.{ScrubAnswer}
+use Rattle.card_scrub.specs.declared.ScrubAnswer.the-variants.{Done, Length, Broken}
+
+-- the value of a data field put right
+abbrev pub scrubbedPart : Part → Part
+scrubbedPart (grids ws) = grids (map (scrubbed gridCode) ws)
+scrubbedPart (block w) = block (scrubbed blockCode w)
+
+-- all else stays
+abbrev pub scrubbedCard : Card → Card
+scrubbedCard c = record { title = c .title; parts = map scrubbedPart (c .parts) }
+
+-- blocks, clean, mended, lost and flips
+abbrev pub blockTally : List ℕ → Blocks
+blockTally ws = record {
+  blocks = length ws;
+  clean = sumBy blockCode isClean ws;
+  mended = sumBy blockCode isMended ws;
+  lost = sumBy blockCode isLost ws;
+  flips = sumBy blockCode flipsOf ws;
+}
+
+abbrev pub talliesOf : List Part → Tallies
+talliesOf ps = record { grids = tallyOf (gridsIn ps); blocks = blockTally (blocksIn ps) }
+
+-- `card::scrub`: a tally for grids and one for blocks. The value of each data field is put right within the image, where a lost grid or
+-- block stays as it was. An image that is too long or broken is refused, and nothing is written.
+pub record Scrubbed (image : List ℕ) (r : ScrubAnswer) (exit : List ℕ) : Type 0 where
+  pub answer : r ≡ judged image Length Broken (λ c. Done (talliesOf (c .parts)))
+  pub after : exit ≡ judged image image (λ at. image) (λ c. imageOf (scrubbedCard c))

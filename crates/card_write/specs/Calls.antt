@@ -1,0 +1,44 @@
+-- What the call promises: one record, which determines the answer and every place of every lent slice. The order of the refusals is one
+-- definition, for the answer and for the memory. Assumes nothing.
+use mathlib.Core.Path.{_≡_}
+use mathlib.Core.Bool.{Bool, _&&_}
+use mathlib.Core.List.{List, [], _∷_, map}
+use Prim.Native.Nat.{ℕ, _+_, _*_}
+use lib.Dec.{leb, eqb}
+use lib.ListN.{length}
+use Rattle.words.specs.Word.{choose}
+use Rattle.words.specs.Bytes.{laid}
+use Rattle.grid_code.specs.Code.{codeword}
+use Rattle.image.specs.Fields.{titleLength, firstBad}
+use Rattle.image.specs.Card.{grids, Card, imageOf}
+use Rattle.card_write.specs.declared.WriteAnswer.{WriteAnswer}
+use Rattle.card_write.specs.declared.WriteAnswer.the-variants.{Done, Length, Title, Room}
+
+-- the card of a title and one grids field, ..
+abbrev pub cardOn : List ℕ → List ℕ → Card
+cardOn title words = record { title = title; parts = grids words ∷ [] }
+
+-- .. whose grids are those of numbers
+abbrev pub cardWith : List ℕ → List ℕ → Card
+cardWith title numbers = cardOn title (map codeword numbers)
+
+-- title, one grids field, end
+abbrev pub sizeWritten : List ℕ → List ℕ → ℕ
+sizeWritten title numbers = 9 + length title + 8 * length numbers
+
+-- the length of a title, and 0 to 512 numbers
+abbrev pub lengthsAllowed : List ℕ → List ℕ → Bool
+lengthsAllowed title numbers = titleLength (length title) && leb (length numbers) 512
+
+-- 3 for a length that is not allowed, then 4 for the first bad title byte, then 6 for an image slice that is too short
+abbrev pub chosen : {A : Type 0} → List ℕ → List ℕ → List ℕ → A → (ℕ → A) → A → A → A
+chosen title numbers image long bad short done =
+    choose (lengthsAllowed title numbers)
+    (choose (eqb (firstBad title) (length title)) (choose (leb (sizeWritten title numbers) (length image)) done short) (bad (firstBad title)))
+    long
+
+-- `card::write`: the image of the title and the numbers over the front of the slice, and how many bytes it has. Room behind stays untouched.
+-- A refused call writes nothing.
+pub record Wrote (title numbers image : List ℕ) (r : WriteAnswer) (exit : List ℕ) : Type 0 where
+  pub answer : r ≡ chosen title numbers image Length Title Room (Done (sizeWritten title numbers))
+  pub after : exit ≡ chosen title numbers image image (λ at. image) image (laid (imageOf (cardWith title numbers)) image)

@@ -1,0 +1,93 @@
+// The writer of card images: title, one grids field, end, laid over the front of a slice.
+//
+// specs/Calls.antt says what the call answers and leaves, and specs/Answer.antt document 01's number for each answer.
+ghost use mathlib.Core.Path.{_≡_};
+ghost use mathlib.Core.List.{map, _++_};
+ghost use Prim.Native.Nat.{_+_, _*_, _≤_, _<_};
+ghost use lib.ListN.{length};
+ghost use Rattle.words.specs.Bytes.{bytesOf, laid};
+ghost use Rattle.grid_code.specs.Code.{codeword};
+ghost use Rattle.image.specs.Card.{grids, head, partBytes, imageOf};
+ghost use Rattle.card_write.specs.Calls.{cardWith, Wrote};
+ghost use Rattle.card_write.specs.Steps.{Fits};
+use grid::Grid;
+
+// How many bytes were written; or refused for a length, for the title's byte at a place, or for want of
+// room.
+pub enum WriteAnswer {
+    Done(usize),
+    Length,
+    Title(usize),
+    Room,
+}
+
+// A field's tag and length, high byte first.
+fn head(bytes: &mut [u8], tag: u8, n: usize)
+    requires { ⌜ (3 ≤ length (now bytes)) × (n < 65536) ⌝ }
+    ensures { λ r. ⌜ now (bytes .exit) ≡ laid (head tag n) (now (bytes .entry)) ⌝ }
+{
+    bytes[0] = tag;
+    bytes[1] = (n / 256 % 256) as u8;
+    bytes[2] = (n % 256) as u8;
+}
+
+// The grids of the numbers, one behind the other.
+fn grids(bytes: &mut [u8], numbers: &[u16])
+    requires { ⌜ 8 * length (now numbers) ≤ length (now bytes) ⌝ }
+    ensures { λ r. ⌜ now (bytes .exit) ≡ laid (bytesOf 8 (map codeword (now (numbers .entry)))) (now (bytes .entry)) ⌝ }
+{
+    let mut i: usize = 0;
+    while i < numbers.len() {
+        let at = 8 * i;
+        values::put_grid(&mut bytes[at..], Grid::encode(numbers[i]));
+        i += 1;
+    }
+}
+
+// One grids field, and the end.
+fn lay_grids(numbers: &[u16], image: &mut [u8])
+    requires { ⌜ (length (now numbers) ≤ 512) × (6 + 8 * length (now numbers) ≤ length (now image)) ⌝ }
+    ensures { λ r. ⌜ now (image .exit) ≡ laid (partBytes (grids (map codeword (now (numbers .entry)))) ++ head 127 0) (now (image .entry)) ⌝ }
+{
+    let size = 8 * numbers.len();
+    let end = 3 + size;
+    head(image, 2, size);
+    grids(&mut image[3..], numbers);
+    head(&mut image[end..], 0x7F, 0);
+}
+
+// The whole image.
+fn lay(title: &[u8], numbers: &[u16], image: &mut [u8])
+    requires { ⌜ Fits (now title) (now numbers) (now image) ⌝ }
+    ensures { λ r. ⌜ now (image .exit) ≡ laid (imageOf (cardWith (now (title .entry)) (now (numbers .entry)))) (now (image .entry)) ⌝ }
+{
+    let end = 3 + title.len();
+    head(image, 1, title.len());
+    values::copy(title, &mut image[3..]);
+    lay_grids(numbers, &mut image[end..]);
+}
+
+// The image of a title and of numbers, into a slice: title, one grids field, end.
+pub fn write(title: &[u8], numbers: &[u16], image: &mut [u8]) -> WriteAnswer
+    ensures { λ r. ⌜ Wrote (now (title .entry)) (now (numbers .entry)) (now (image .entry)) r (now (image .exit)) ⌝ }
+{
+    if title.len() < 1 {
+        return WriteAnswer::Length;
+    }
+    if title.len() > 24 {
+        return WriteAnswer::Length;
+    }
+    if numbers.len() > page::MOST {
+        return WriteAnswer::Length;
+    }
+    let bad = image::first_bad(title);
+    if bad != title.len() {
+        return WriteAnswer::Title(bad);
+    }
+    let size = 9 + title.len() + 8 * numbers.len();
+    if image.len() < size {
+        return WriteAnswer::Room;
+    }
+    lay(title, numbers, image);
+    WriteAnswer::Done(size)
+}

@@ -1,0 +1,4 @@
+pub mod Codeword
+pub mod Distance
+pub mod Places
+pub mod Promises

@@ -1,0 +1,51 @@
+-- What specs/Promises.antt says of the grid's code holds. Assumes nothing.
+use mathlib.Core.Path.{_≡_, refl, sym, ap, _∙_}
+use Prim.Native.Nat.{ℕ, _*_, _^_, _≤_, _<_}
+use native.Mathlib.Nat.{le-trans, le-antisymm}
+use native.Mathlib.Omega.{arith}
+use lib.Count.{ones}
+use lib.Dec.{lit<, lit≤}
+use Rattle.words.specs.Word.{bit, dist}
+use Rattle.words.proofs.Fields.{bit-fields, joined-fields, fields-joined, dist-fields}
+use Rattle.words.proofs.Sum.{sum-eq, sum-bits}
+use Rattle.codes.specs.Promises.{States}
+use Rattle.codes.proofs.Promises.{every-code}
+use Rattle.grid_code.specs.Equations.{dataBit, dataOf, Codeword}
+use Rattle.grid_code.specs.Code.{codeword, gridCode}
+use Rattle.grid_code.specs.Promises.{GridPromises}
+use Rattle.grid_code.proofs.Codeword.{is-codeword, one-solution, one-value}
+use Rattle.grid_code.proofs.Distance.{codeword-lt, distance}
+
+data-is : (d g : ℕ) → d < 2 ^ 16 → Codeword d g → dataOf g ≡ d
+data-is d g h p =
+    sum-eq 16 (λ k. dataBit g k * 2 ^ k) (λ k. bit d k * 2 ^ k) (λ k l. ap (λ (x : ℕ). x * 2 ^ k) (p .data-places k l))
+    ∙ sum-bits 16 d h
+
+-- the grids of 0 and 1
+sixteen-apart : dist (codeword 0) (codeword 1) ≡ 16
+unfolding codeword dist ones
+sixteen-apart = dist-fields 8 8 (codeword 0) (codeword 1) (lit< tt) (lit< tt)
+
+-- two codewords are 16 places apart or more, and some no more
+states : {radius places n : ℕ} → radius ≡ 7 → places ≡ 64 → n ≤ 16 → 16 ≤ n → States gridCode radius places n
+states p q l h = record {
+  radius-is = p;
+  places-are = q;
+  fits = codeword-lt;
+  apart = λ d e hd he ne. le-trans l (distance d e hd he ne);
+  reached = (0, 1, lit< tt, lit< tt, (λ e. absurd (omega arith)), sixteen-apart ∙ le-antisymm h l);
+}
+
+pub promised : GridPromises
+promised = record {
+  places = λ g r c hr hc. sym (bit-fields 8 8 g r c hr hc);
+  there-and-back = joined-fields 8 8;
+  back-and-there = fields-joined 8 8;
+  meets = is-codeword;
+  one-solution = one-solution;
+  one-value = one-value;
+  data-places = data-is;
+  constants = states refl refl (lit≤ tt) (lit≤ tt);
+  verdicts = every-code gridCode .promises 16 distance (lit< tt);
+  eight-are-lost = every-code gridCode .one-more-is-lost 16 distance (lit≤ tt);
+}

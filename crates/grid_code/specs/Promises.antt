@@ -1,0 +1,30 @@
+-- What is proved of the grid's code, for all data values and all words (`promised`). Assumes nothing.
+use mathlib.Core.Path.{_≡_}
+use mathlib.Core.List.{List}
+use Prim.Native.Nat.{ℕ, _^_, _<_}
+use lib.ListN.{length, getD}
+use Rattle.words.specs.Word.{bit}
+use Rattle.words.specs.Fields.{fields, joined, Below}
+use Rattle.codes.specs.Promises.{States, Promises, OneMoreIsLost}
+use Rattle.grid_code.specs.Equations.{inRow, dataOf, Codeword}
+use Rattle.grid_code.specs.Code.{codeword, gridCode}
+
+pub record GridPromises : Type 0 where
+  -- Row r is byte r of the number, lowest byte first, and place c of a row is bit c.
+  pub places : (g r c : ℕ) → r < 8 → c < 8 → bit (getD (fields 8 8 g) r 0) c ≡ inRow g r c
+  -- From the number to the rows and back nothing changes, nor from eight rows to the number and back.
+  pub there-and-back : (g : ℕ) → g < 2 ^ 64 → joined 8 (fields 8 8 g) ≡ g
+  pub back-and-there : (rows : List ℕ) → length rows ≡ 8 → Below 8 rows → fields 8 8 (joined 8 rows) ≡ rows
+  -- Demand 2: encoding equals the parity equations, for all 65,536 values.
+  pub meets : (d : ℕ) → d < 2 ^ 16 → Codeword d (codeword d)
+  -- They have one solution for each value, ..
+  pub one-solution : (d g h : ℕ) → Codeword d g → Codeword d h → g ≡ h
+  -- .. two values never have the same grid, ..
+  pub one-value : (d e g : ℕ) → d < 2 ^ 16 → e < 2 ^ 16 → Codeword d g → Codeword e g → d ≡ e
+  -- .. and the data places of a grid are its data.
+  pub data-places : (d g : ℕ) → d < 2 ^ 16 → Codeword d g → dataOf g ≡ d
+  -- The constants: radius 7, 64 places; two different codewords differ in at least 16 places, and some in no more.
+  pub constants : States gridCode 7 64 16
+  -- Demand 3, no tie, and up to seven flips undone; eight are always lost.
+  pub verdicts : Promises gridCode
+  pub eight-are-lost : OneMoreIsLost gridCode

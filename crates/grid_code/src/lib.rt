@@ -1,0 +1,64 @@
+// The code of the grid, over numbers: its data places, as one number with row r in byte r, and the grid that has them.
+//
+// specs/Equations.antt has the parities of document 01, specs/Code.antt their one solution for each data value, and specs/Promises.antt
+// what is proved of the code. The type and its calls are in the crate grid; each function here accepts every number.
+ghost use mathlib.Core.Path.{_≡_};
+ghost use Prim.Native.Nat.{ℕ, _/_, _%_, _^_, _<_};
+ghost use lib.Bits.{bitAnd};
+ghost use Rattle.grid_code.specs.Code.{codeword};
+
+// The data places: data bit k goes to row k / 4, place k mod 4, of rows 0 to 3 as one number.
+pub fn data_places(value: u16) -> u32
+    ensures { λ r. ⌜ r ≡ bitAnd (codeword value) 0x0F0F_0F0F ⌝ }
+{
+    let v = value as u32;
+    let pairs = (v ^ (v << 8)) & 0x00FF_00FF;
+    (pairs ^ (pairs << 4)) & 0x0F0F_0F0F
+}
+
+// Rows 0 to 3 from their data places, all four rows at a time: each data place, times the row that has
+// no other. Place 4 is set in it if the data place is one of 0, 1, 2, place 5 if one of 0, 2, 3, place 6 if
+// one of 1, 2, 3, and place 7 if an odd number of places is set before it.
+pub fn upper(places: u32) -> u32
+    ensures { λ r. ⌜ ((d : ℕ) → d < 2 ^ 16 → places ≡ bitAnd (codeword d) 0x0F0F_0F0F → r ≡ codeword d % 2 ^ 32) ⌝ }
+{
+    let lowest = 0x0101_0101;
+    ((places & lowest) * 0xB1)
+        ^ (((places >> 1) & lowest) * 0xD2)
+        ^ (((places >> 2) & lowest) * 0x74)
+        ^ (((places >> 3) & lowest) * 0xE8)
+}
+
+// Rows 4 to 7 from rows 0 to 3. Each of them is the parity of all four but one: row 4 leaves out
+// row 2, row 5 row 1, row 6 row 0, and row 7, since rows 4 to 6 add up to row 3, leaves out row 3.
+pub fn lower(rows: u32) -> u32
+    ensures { λ r. ⌜ ((d : ℕ) → d < 2 ^ 16 → rows ≡ codeword d % 2 ^ 32 → r ≡ codeword d / 2 ^ 32) ⌝ }
+{
+    let pairs = rows ^ (rows << 16) ^ (rows >> 16);
+    let all = pairs ^ (pairs << 8) ^ (pairs >> 24);
+    let left_out = rows ^ (pairs & 0x00FF_00FF);
+    all ^ left_out
+}
+
+// The grid with these data places.
+pub fn completed(places: u32) -> u64
+    ensures { λ r. ⌜ ((d : ℕ) → d < 2 ^ 16 → places ≡ bitAnd (codeword d) 0x0F0F_0F0F → r ≡ codeword d) ⌝ }
+{
+    let rows = upper(places);
+    ((lower(rows) as u64) << 32) | (rows as u64)
+}
+
+// The data places of a grid.
+pub fn places_of(w: u64) -> u32
+    ensures { λ r. ⌜ r ≡ bitAnd w 0x0F0F_0F0F ⌝ }
+{
+    (w & 0x0F0F_0F0F) as u32
+}
+
+// The data that stands in the data places.
+pub fn data_of(places: u32) -> u16
+    ensures { λ r. ⌜ (bitAnd places 0x0F0F_0F0F ≡ places → bitAnd (codeword r) 0x0F0F_0F0F ≡ places) ⌝ }
+{
+    let pairs = (places ^ (places >> 4)) & 0x00FF_00FF;
+    ((pairs ^ (pairs >> 8)) & 0xFFFF) as u16
+}

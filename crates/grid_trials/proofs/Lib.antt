@@ -1,0 +1,3 @@
+pub mod Repair
+pub mod Solving
+pub mod Decoder

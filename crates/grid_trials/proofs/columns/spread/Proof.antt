@@ -1,0 +1,39 @@
+-- `grid_trials::columns::spread` meets its contract: it is linear, and each row of it is the exclusive or of all rows. Assumes nothing.
+use mathlib.Core.Path.{_≡_, sym, ap, _∙_}
+use Prim.Native.Nat.{ℕ, _%_, _^_, _<_}
+use lib.Dec.{eqb}
+use Rattle.words.specs.Word.{bit}
+use Rattle.words.proofs.Fields.{bit-fields}
+use Rattle.words.proofs.Linear.{Linear, same, _⊕_, shr, shl, then, field, total, bit-total, agree}
+use Rattle.words.proofs.Sum.{sum-eq}
+use Rattle.words.proofs.Test.{allBelow, at-below}
+use Rattle.grid_code.specs.Equations.{inColumn}
+use Rattle.grid_code.specs.Sides.{rowOf}
+use Rattle.grid_trials.proofs.columns.spread.Statement.{statement}
+use Rattle.grid_trials.proofs.columns.spread.Tie as tie
+
+-- what the code computes
+abbrev halves : Linear
+halves = same ⊕ shl same 32 64 ⊕ shr same 32
+
+abbrev quarters : Linear
+quarters = halves ⊕ shl halves 16 64 ⊕ shr halves 48
+
+abbrev made : Linear
+made = quarters ⊕ shl quarters 8 64 ⊕ shr quarters 56
+
+each-row : (w r : ℕ) → w < 2 ^ 64 → r < 8 → rowOf (made .at w) r ≡ total 8 (field 8 8) .at w
+each-row w r h l =
+    agree (then made (field 8 8 r)) (total 8 (field 8 8)) 64
+    (at-below 8 (λ r. allBelow 64 (λ k. eqb (then made (field 8 8 r) .at (2 ^ k)) (total 8 (field 8 8) .at (2 ^ k)))) tt r l) w h
+
+returns : tie.Need-returns
+returns c i r hc hr =
+    let w : ℕ = c .args .w in
+    bit-fields 8 8 (made .at w) r i hr hc
+    ∙ ap (λ (x : ℕ). bit x i) (each-row w r (c .fits .w .fits) hr)
+    ∙ bit-total 8 (field 8 8) w i
+    ∙ ap (λ (x : ℕ). x % 2) (sum-eq 8 (λ k. bit (rowOf w k) i) (inColumn w i) (λ k l. sym (bit-fields 8 8 w k i l hc)))
+
+pub spread-spec : {M : Type 1} → statement M
+spread-spec = tie.close (tie.spec returns)

@@ -1,0 +1,46 @@
+// The two trials of the grid's decoder, over numbers: the rows put right (rows), the columns solved (columns), and the codeword that is
+// reached. A trial pays 1 for a row that it sets aside and 2 for any other row that it has wrong,
+// and reaches a codeword for which it pays 3 at most. Row by row both together pay no more than the
+// places that differ, so a codeword within seven is reached by one of them.
+ghost use Prim.Native.Nat.{_<_};
+ghost use Rattle.grid_trials.specs.Steps.{Mended, Tried, Nearby};
+
+mod columns;
+pub mod rows;
+
+// How far from the word read a codeword may be.
+const RADIUS: u32 = 7;
+
+// A codeword, and in how many places the word read differs from it.
+pub struct Near {
+    pub number: u64,
+    pub flips: u32,
+}
+
+// A trial on the rows put right, where those are set aside that need `least` flips or more: the columns
+// put right, and the places of the codeword that is reached, counted.
+fn trial(word: u64, rows: u64, least: u32) -> Near
+    requires { ⌜ (0 < least) × (least < 3) ⌝ }
+    ensures { λ r. ⌜ (Mended word rows → Tried least word (r .number) (r .flips)) ⌝ }
+{
+    let number = grid_code::completed(grid_code::places_of(columns::solved(
+        rows,
+        rows >> (3 + least),
+    )));
+    Near {
+        number,
+        flips: u64::count_ones(word ^ number),
+    }
+}
+
+// What the first trial reaches if it is near enough, and what the second does if not, where `rows` is what `rows::mended` keeps of the word
+// read: the first sets the rows aside that need two flips, the second those that need one or two.
+pub fn nearest(word: u64, rows: u64) -> Near
+    ensures { λ r. ⌜ (Mended word rows → Nearby word (r .number) (r .flips)) ⌝ }
+{
+    let first = trial(word, rows, 2);
+    if first.flips <= RADIUS {
+        return first;
+    }
+    trial(word, rows, 1)
+}

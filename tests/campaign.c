@@ -1,0 +1,338 @@
+/* The fault campaign: damaged words of both codes through the library and the second program, and a table of what became of them.
+   `tests/campaign` builds it and runs it.
+
+   `campaign [SEED [COUNT]]` flips every set of up to 3 places of a grid and of up to 2 places of a block, and of more places COUNT drawn
+   sets for each number of flips. The data is drawn for each word. By the library's answer a word is
+
+     undone   if what was written has come back and the flips are counted right;
+     refused  if it is lost or a tie, and stays as it was read;
+     wrong    in all other cases.
+
+   The status is 1 if the two answers to a word differ in anything, if up to the radius a word is not undone, or if a grid with 8 flips is
+   not refused; the first such word is shown with both answers. What becomes of more flips is shown as it is: nobody can tell them from
+   fewer flips of another codeword.
+
+   `campaign SIDE BIT`, where SIDE is `library` or `second program`, runs one code with that bit of one answer of that side flipped: 0 to 31
+   in the verdict of a grid, 32 to 63 in rows 0 to 3 of the repaired grid, 64 to 95 in the number that is returned for a block, 96 to 127 in
+   the first two words of the block. It has to fail. */
+#include "draw.h"
+#include "flip.h"
+#include "forms.h"
+#include "library.h"
+#include "text.h"
+
+int fprintf(void *, const char *, ...);
+int fflush(void *);
+int isatty(int);
+int memcmp(const void *, const void *, unsigned long);
+extern void *stderr;
+
+enum { SLICE = 1000, DATA = 32, WORDS = 38, PLACES = 608, STANDARD_ERROR = 2, BAD_ARGUMENTS = 2 };
+
+/* of SEED and COUNT; ten times as much is still a number of 64 bits */
+static const uint64_t largest = 1000000000000000000;
+static uint64_t count = 1000000;
+
+/* A grid or a block. The lowest byte stands first, so place p of either is bit p mod 8 of byte p/8. */
+union bits {
+    uint64_t grid;
+    uint16_t block[WORDS];
+    uint8_t bytes[2 * WORDS];
+};
+
+/* a word as it was written and as it is read, and what is returned for it if its flips are undone */
+struct damaged {
+    union bits written, read;
+    uint64_t undone;
+};
+
+/* what a side returned and left: a verdict and the repaired grid, or the number of a scrub and the block */
+struct said {
+    uint64_t returned;
+    union bits left;
+};
+
+/* Each row of its table is for a number of flips. Up to `every` flips the row has every set of places. Up to `undone` flips all have to be
+   undone, and from there up to `refused` refused. */
+struct code {
+    const char *name, *promise;
+    const unsigned *flips;
+    unsigned rows, places, every, undone, refused;
+    uint64_t lost, tie, *flip_library, *flip_second;
+    uint64_t (*write)(union bits *, unsigned flips);
+    void (*answer)(const struct damaged *, uint64_t n, struct said *library, struct said *second);
+    void (*print)(const union bits *);
+};
+
+/* draws data and writes it; what is returned if so many flips are undone */
+static uint64_t write_grid(union bits *written, unsigned flips)
+{
+    uint16_t data = (uint16_t)draw();
+    written->grid = second_grid(data);
+    return verdict_number((struct answer){.data = data, .flips = flips});
+}
+
+static uint64_t write_block(union bits *written, unsigned flips)
+{
+    for (unsigned k = 0; k < DATA; k++)
+        written->block[k] = (uint16_t)draw();
+    second_block(written->block, written->block);
+    return scrub_number((struct block_answer){.flips = flips});
+}
+
+static void answer_grids(const struct damaged *words, uint64_t n, struct said *library, struct said *second)
+{
+    static uint64_t read[SLICE], verdicts[SLICE], repaired[SLICE];
+    for (uint64_t k = 0; k < n; k++)
+        read[k] = words[k].read.grid;
+    grid_decode(read, n, verdicts, n, repaired, n);
+    for (uint64_t k = 0; k < n; k++) {
+        struct answer a = second_decode(words[k].read.grid);
+        library[k] = (struct said){verdicts[k], {.grid = repaired[k]}};
+        second[k] = (struct said){verdict_number(a), {.grid = a.repaired}};
+    }
+}
+
+static void answer_blocks(const struct damaged *words, uint64_t n, struct said *library, struct said *second)
+{
+    for (uint64_t k = 0; k < n; k++) {
+        library[k].left = second[k].left = words[k].read;
+        library[k].returned = block_scrub(library[k].left.block, WORDS);
+        second[k].returned = scrub_number(second_block_scrub(second[k].left.block, WORDS));
+    }
+}
+
+static void print_grid(const union bits *b)
+{
+    print_grids(&b->grid, 1);
+}
+
+static void print_block(const union bits *b)
+{
+    print_words(b->block, WORDS);
+}
+
+/* Two codewords of a grid differ in an even number of places, so an odd number of flips can end 7 places from another one and an even
+   number only 6. That makes an odd number wrong some eight times as often as the even ones beside it: the table has them in pairs. */
+static const unsigned grid_flips[] = {0, 1, 2, 3, 4, 5, 6, 7, 8, 9, 10, 11, 12, 13, 14, 15, 16, 17, 24, 25, 32, 33};
+static const unsigned block_flips[] = {0, 1, 2, 3, 4, 5, 6, 7, 8};
+
+static const struct code grid = {
+    .name = "grid",
+    .promise = "up to 7 flips undone, 8 refused",
+    .flips = grid_flips,
+    .rows = sizeof grid_flips / sizeof *grid_flips,
+    .places = 64,
+    .every = 3,
+    .undone = 7,
+    .refused = 8,
+    .lost = 1 << 24,
+    .tie = 5 << 24,
+    .flip_library = &flip_library[0],
+    .flip_second = &flip_second[0],
+    .write = write_grid,
+    .answer = answer_grids,
+    .print = print_grid,
+};
+
+static const struct code block = {
+    .name = "block",
+    .promise = "up to 2 flips undone",
+    .flips = block_flips,
+    .rows = sizeof block_flips / sizeof *block_flips,
+    .places = PLACES,
+    .every = 2,
+    .undone = 2,
+    .refused = 2,
+    .lost = 2 << 8,
+    .tie = 5 << 8,
+    .flip_library = &flip_library[1],
+    .flip_second = &flip_second[1],
+    .write = write_block,
+    .answer = answer_blocks,
+    .print = print_block,
+};
+
+/* a row of the table; `all` is how many words it will have */
+struct row {
+    unsigned flips;
+    uint64_t all, words, undone, refused, wrong;
+};
+
+/* a code's campaign, with the first word that fails */
+struct campaign {
+    const struct code *code;
+    struct test agree, promise;
+    struct damaged word;
+    struct said library, second;
+};
+
+/* how many sets of n places there are */
+static uint64_t sets(unsigned places, unsigned n)
+{
+    uint64_t k = 1;
+    for (unsigned p = 0; p < n; p++)
+        k = k * (places - p) / (p + 1);
+    return k;
+}
+
+/* from a set of n places, in ascending order, to the next one; from the last one to none */
+static void next_set(unsigned *set, unsigned n, unsigned places)
+{
+    unsigned p = n;
+    while (p > 0 && set[p - 1] == places - n + p - 1)
+        p--;
+    if (p == 0)
+        return;
+    set[p - 1]++;
+    for (; p < n; p++)
+        set[p] = set[p - 1] + 1;
+}
+
+static void damage(const struct code *c, struct damaged *d, const unsigned *places, unsigned n)
+{
+    d->undone = c->write(&d->written, n);
+    d->read = d->written;
+    for (unsigned k = 0; k < n; k++)
+        d->read.bytes[places[k] / 8] ^= (uint8_t)(1 << places[k] % 8);
+}
+
+/* what is flipped, once: in the number returned, and in the first bytes that were left */
+static void flip(struct said *a, uint64_t *flips)
+{
+    a->returned ^= *flips & UINT32_MAX;
+    a->left.grid ^= *flips >> 32;
+    *flips = 0;
+}
+
+static int same(const struct code *c, const union bits *a, const union bits *b)
+{
+    return memcmp(a, b, c->places / 8) == 0;
+}
+
+static void judge(struct campaign *c, struct row *r, const struct damaged *d, struct said library, struct said second)
+{
+    const struct code *code = c->code;
+    uint64_t at = c->agree.compared;
+    flip(&library, code->flip_library);
+    flip(&second, code->flip_second);
+    int agree = library.returned == second.returned && same(code, &library.left, &second.left);
+    int undone = library.returned == d->undone && same(code, &library.left, &d->written);
+    int refused = (library.returned == code->lost || library.returned == code->tie) && same(code, &library.left, &d->read);
+    int kept = r->flips <= code->undone ? undone : r->flips <= code->refused ? refused : 1;
+    if (!(agree && kept) && c->agree.differ + c->promise.differ == 0) {
+        c->word = *d;
+        c->library = library;
+        c->second = second;
+    }
+    compare(&c->agree, agree, 1, at);
+    if (r->flips <= code->refused)
+        compare(&c->promise, kept, 1, at);
+    r->words++;
+    r->undone += undone;
+    r->refused += refused;
+    r->wrong += !undone && !refused;
+}
+
+/* on a terminal a line that is rewritten, and taken away for the row of the table; elsewhere a line where a row is done */
+static void progress(const struct code *c, const struct row *r)
+{
+    int done = r->words == r->all, terminal = isatty(STANDARD_ERROR);
+    if (terminal || done)
+        fprintf(stderr, "%s%s, %u flips: %llu of %llu%s", terminal ? "\r" : "", c->name, r->flips, (unsigned long long)r->words,
+                (unsigned long long)r->all, terminal ? "" : "\n");
+    if (terminal && done)
+        fprintf(stderr, "\r\033[K");
+}
+
+static void fill_row(struct campaign *c, struct row *r, int every)
+{
+    static struct damaged words[SLICE];
+    static struct said library[SLICE], second[SLICE];
+    unsigned places[PLACES];
+    for (unsigned p = 0; p < PLACES; p++)
+        places[p] = p;
+    while (r->words < r->all) {
+        uint64_t n = r->all - r->words < SLICE ? r->all - r->words : SLICE;
+        for (uint64_t k = 0; k < n; k++) {
+            if (!every)
+                draw_front(places, c->code->places, r->flips);
+            damage(c->code, &words[k], places, r->flips);
+            if (every)
+                next_set(places, r->flips, c->code->places);
+        }
+        c->code->answer(words, n, library, second);
+        for (uint64_t k = 0; k < n; k++)
+            judge(c, r, &words[k], library[k], second[k]);
+        progress(c->code, r);
+    }
+}
+
+static void print_said(const struct code *c, const char *side, const struct said *a)
+{
+    printf("  %s returned %08llX and left ", side, (unsigned long long)a->returned);
+    c->print(&a->left);
+    printf("\n");
+}
+
+static void print_failed(const struct campaign *c)
+{
+    printf("the first %s that fails was written as ", c->code->name);
+    c->code->print(&c->word.written);
+    printf("\n  and read as ");
+    c->code->print(&c->word.read);
+    printf("\n");
+    print_said(c->code, "the library", &c->library);
+    print_said(c->code, "the second program", &c->second);
+}
+
+/* It returns whether something has failed. */
+static int report_campaign(struct campaign *c)
+{
+    char agree[100], promise[100];
+    snprintf(agree, sizeof agree, "campaign, %s, the library beside the second program", c->code->name);
+    snprintf(promise, sizeof promise, "campaign, %s, %s", c->code->name, c->code->promise);
+    c->agree.name = agree;
+    c->promise.name = promise;
+    int failed = c->agree.differ + c->promise.differ != 0;
+    if (failed)
+        print_failed(c);
+    report_drawn(c->agree);
+    report_drawn(c->promise);
+    return failed;
+}
+
+static int run(const struct code *code)
+{
+    struct campaign c = {.code = code};
+    printf("%s, seed %llu\nflips       words      undone     refused       wrong\n", code->name, (unsigned long long)seed);
+    for (unsigned k = 0; k < code->rows; k++) {
+        int every = code->flips[k] <= code->every;
+        struct row r = {.flips = code->flips[k], .all = every ? sets(code->places, code->flips[k]) : count};
+        fill_row(&c, &r, every);
+        printf("%5u %11llu %11llu %11llu %11llu   %s\n", r.flips, (unsigned long long)r.words, (unsigned long long)r.undone,
+               (unsigned long long)r.refused, (unsigned long long)r.wrong, every ? "every set of places" : "drawn");
+        fflush(0);
+    }
+    return report_campaign(&c);
+}
+
+/* Reads `SEED COUNT` behind the program's name, as much of it as is there. It returns 0 if that is not what is there. */
+static int read_arguments(int n, char **words)
+{
+    return n <= 3 && (n < 2 || read_number(words[1], largest, &seed)) && (n < 3 || (read_number(words[2], largest, &count) && count > 0));
+}
+
+int main(int n, char **words)
+{
+    if (n == 3 && read_flip(words)) {
+        count = 1;
+        return run(*grid.flip_library != 0 || *grid.flip_second != 0 ? &grid : &block);
+    }
+    if (!read_arguments(n, words)) {
+        fprintf(stderr, "usage: tests/campaign [SEED [COUNT]], both decimal, COUNT from 1\n");
+        return BAD_ARGUMENTS;
+    }
+    int grid_failed = run(&grid), block_failed = run(&block);
+    return grid_failed || block_failed;
+}
