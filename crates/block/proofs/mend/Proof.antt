@@ -25,7 +25,7 @@ flip-requires-3 : tie.Need-flip-requires-3
 flip-requires-3 c κs =
     let at = c .before .before .before .before .before .before in
     let found = subst (Found (at .before .before .before .before .args .s)) (at .p2 .given .1) (at .before .before .nearest .ensures) in
-    (omega arith, found .1)
+    (omega arith, omega (arith, found .0, found .1))
 
 returns : tie.Need-returns
 returns c =

@@ -18,8 +18,8 @@ returns c =
     let ns = now (s .args .numbers) in
     let image = now (s .args .image) in
     record {
-      answer = sym (is-long t ns image WriteLength Title Room (Done (sizeWritten t ns)) (no-title t ns image (omega arith)));
-      after = sym (is-long t ns image image (λ at. image) image (laid (imageOf (cardWith t ns)) image) (no-title t ns image (omega arith)));
+      answer = sym (is-long t ns image WriteLength Title _ _ (no-title t ns image (omega arith)));
+      after = sym (is-long t ns image image (λ at. image) _ _ (no-title t ns image (omega arith)));
     }
 
 returns-2 : tie.Need-returns-2
@@ -29,8 +29,8 @@ returns-2 c =
     let ns = now (s .args .numbers) in
     let image = now (s .args .image) in
     record {
-      answer = sym (is-long t ns image WriteLength Title Room (Done (sizeWritten t ns)) (long-title t ns image (omega arith) (omega arith)));
-      after = sym (is-long t ns image image (λ at. image) image (laid (imageOf (cardWith t ns)) image) (long-title t ns image (omega arith) (omega arith)));
+      answer = sym (is-long t ns image WriteLength Title _ _ (long-title t ns image (omega arith) (omega arith)));
+      after = sym (is-long t ns image image (λ at. image) _ _ (long-title t ns image (omega arith) (omega arith)));
     }
 
 returns-3 : tie.Need-returns-3
@@ -40,8 +40,8 @@ returns-3 c =
     let ns = now (s .args .numbers) in
     let image = now (s .args .image) in
     record {
-      answer = sym (is-long t ns image WriteLength Title Room (Done (sizeWritten t ns)) (many-numbers t ns image (omega arith) (omega arith) (omega arith)));
-      after = sym (is-long t ns image image (λ at. image) image (laid (imageOf (cardWith t ns)) image) (many-numbers t ns image (omega arith) (omega arith) (omega arith)));
+      answer = sym (is-long t ns image WriteLength Title _ _ (many-numbers t ns image (omega arith) (omega arith) (omega arith)));
+      after = sym (is-long t ns image image (λ at. image) _ _ (many-numbers t ns image (omega arith) (omega arith) (omega arith)));
     }
 
 returns-4 : tie.Need-returns-4
@@ -53,8 +53,8 @@ returns-4 c =
     let bad = c .before .first-bad .ensures .answer in
     let lengths = allowed t ns image (omega arith) (omega arith) (omega arith) in
     record {
-      answer = ap Title bad ∙ sym (is-bad t ns image WriteLength Title Room (Done (sizeWritten t ns)) lengths (λ e. c .if4 .taken (bad ∙ e)));
-      after = sym (is-bad t ns image image (λ at. image) image (laid (imageOf (cardWith t ns)) image) lengths (λ e. c .if4 .taken (bad ∙ e)));
+      answer = ap Title bad ∙ sym (is-bad t ns image _ Title _ _ lengths (λ e. c .if4 .taken (bad ∙ e)));
+      after = sym (is-bad t ns image _ (λ at. image) _ _ lengths (λ e. c .if4 .taken (bad ∙ e)));
     }
 
 returns-5 : tie.Need-returns-5
@@ -66,8 +66,8 @@ returns-5 c =
     let lengths = allowed t ns image (omega arith) (omega arith) (omega arith) in
     let fine = sym (c .before .before .first-bad .ensures .answer) ∙ c .before .if4 .left in
     record {
-      answer = sym (is-short t ns image WriteLength Title Room (Done (sizeWritten t ns)) lengths fine (c .if5 .taken));
-      after = sym (is-short t ns image image (λ at. image) image (laid (imageOf (cardWith t ns)) image) lengths fine (c .if5 .taken));
+      answer = sym (is-short t ns image _ Title Room _ lengths fine (omega (arith, c .if5 .taken)));
+      after = sym (is-short t ns image _ (λ at. image) image _ lengths fine (omega (arith, c .if5 .taken)));
     }
 
 returns-6 : tie.Need-returns-6
@@ -79,8 +79,8 @@ returns-6 c =
     let lengths = allowed t ns image (omega arith) (omega arith) (omega arith) in
     let fine = sym (c .before .before .before .before .before .before .first-bad .ensures .answer) ∙ c .before .before .before .before .before .if4 .left in
     record {
-      answer = sym (is-done t ns image WriteLength Title Room (Done (sizeWritten t ns)) lengths fine (c .before .before .before .before .if5 .left));
-      after = c .before .before .lay .ensures ∙ sym (is-done t ns image image (λ at. image) image (laid (imageOf (cardWith t ns)) image) lengths fine (c .before .before .before .before .if5 .left));
+      answer = sym (is-done t ns image _ Title _ (Done (sizeWritten t ns)) lengths fine (omega (arith, c .before .before .before .before .if5 .left)));
+      after = c .before .before .lay .ensures ∙ sym (is-done t ns image _ (λ at. image) _ (laid (imageOf (cardWith t ns)) image) lengths fine (omega (arith, c .before .before .before .before .if5 .left)));
     }
 
 pub write-spec : {M : Type 1} → statement M
