@@ -10,11 +10,11 @@ use Rattle.grid_code.proofs.lower.Tie as tie
 abbrev pairs : Linear
 pairs = same ⊕ shl same 16 32 ⊕ shr same 16
 
-abbrev all : Linear
-all = pairs ⊕ shl pairs 8 32 ⊕ shr pairs 24
+abbrev mixed : Linear
+mixed = pairs ⊕ (shl same 24 32 ⊕ shr same 24) ⊕ (mask (shl same 8 32) 0x00FF_0000 ⊕ mask (shr same 8) 0x0000_FF00)
 
 abbrev made : Linear
-made = all ⊕ (same ⊕ mask pairs 0x00FF_00FF)
+made = shl mixed 8 32 ⊕ shr mixed 24
 
 returns : tie.Need-returns
 unfolding codeword
