@@ -39,7 +39,7 @@ pub record ScrubPromises : Type 0 where
   -- 38 words are accepted: the number is 0, or 2 for lost. Tie never happens.
   pub numbers : (ws exit : List ℕ) (r : Outcome) → length ws ≡ 38 → Scrubbed ws r exit → (numberOf r ≡ 0) ⊎ (numberOf r ≡ 2)
   pub no-tie : (ws exit : List ℕ) (r : Outcome) → Scrubbed ws r exit → r ≢ Tie
-  -- Answer and words are those of document 01's verdict, the codeword or the words as they were; and every word has one verdict.
+  -- Answer and words are those of document 01's verdict, the codeword or the words as they were; and every word has a verdict.
   pub is-verdict : (ws exit : List ℕ) (r : Outcome) (v : codes.Verdict) → length ws ≡ 38 → Scrubbed ws r exit
       → IsVerdict blockCode (joined 16 ws) v → (r ≡ answerOf v) × (exit ≡ fields 16 38 (repaired blockCode (joined 16 ws) v))
   pub has-verdict : (ws : List ℕ) → (v : codes.Verdict) × IsVerdict blockCode (joined 16 ws) v

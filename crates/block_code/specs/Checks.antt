@@ -10,9 +10,11 @@ use Rattle.words.specs.Fields.{fields}
 use Rattle.block_code.specs.Code.{rowsOf, columnsOf, diagonalsOf}
 use Rattle.block_code.specs.declared.Checks.{Checks}
 
+-- no check is set
 abbrev pub noChecks : Checks
 noChecks = record { rows = 0; columns = 0; diagonals = 0 }
 
+-- where two differ
 abbrev pub mixed : Checks → Checks → Checks
 mixed a b = record {
   rows = bitXor (a .rows) (b .rows);

@@ -3,14 +3,13 @@
 use mathlib.Core.Path.{_≡_}
 use mathlib.Core.Logic.{_≢_}
 use mathlib.Core.Bool.{true, false}
-use mathlib.Core.List.{List, map}
+use mathlib.Core.List.{List}
 use Prim.Native.Nat.{ℕ, _+_, _*_, _≤_, _<_}
 use lib.ListN.{length, getD, take, drop, replicate}
 use Rattle.words.specs.Word.{dist}
 use Rattle.words.specs.Fields.{Below}
 use Rattle.words.specs.Bytes.{laid}
-use Rattle.codes.specs.Verdict.{verdict}
-use Rattle.grid_code.specs.Code.{codeword, gridCode}
+use Rattle.grid_code.specs.Code.{codeword}
 use Rattle.image.specs.Fields.{firstBad}
 use Rattle.image.specs.Card.{Card, sound, broken, gridsIn, blocksIn, cardOf, imageOf}
 use Rattle.image.specs.Calls.{Checked}
@@ -23,9 +22,9 @@ use Rattle.card_write.specs.declared.WriteAnswer.{WriteAnswer}
 use Rattle.card_write.specs.declared.WriteAnswer.the-variants.{Done as WriteDone}
 use Rattle.card_read.specs.declared.ReadAnswer.{ReadAnswer}
 use Rattle.card_read.specs.declared.ReadAnswer.the-variants.{Done as ReadDone}
-use Rattle.card_read.specs.Answer.{dataShown, flipsShown, readNumber, readPlace}
-use Rattle.card_scrub.specs.Answer.{scrubNumber, scrubPlace}
-use Rattle.card_write.specs.Answer.{writeNumber, writePlace}
+use Rattle.card_read.specs.Answer.{dataOfGrids, flipsOfGrids, numberOf as readNumber, placeOf as readPlace}
+use Rattle.card_scrub.specs.Answer.{numberOf as scrubNumber, placeOf as scrubPlace}
+use Rattle.card_write.specs.Answer.{numberOf as writeNumber, placeOf as writePlace}
 use Rattle.card_scrub.specs.Calls.{talliesOf, scrubbedCard, Scrubbed}
 use Rattle.card_write.specs.Calls.{cardOn, cardWith, sizeWritten, lengthsAllowed, Wrote}
 use Rattle.card_read.specs.Calls.{roomFor, Read}
@@ -49,6 +48,7 @@ pub record Again (first second : Tallies) : Type 0 where
   pub blocks-lost : second .blocks .lost ≡ first .blocks .lost
   pub blocks-flips : second .blocks .flips ≡ 0
 
+-- What the scrub promises.
 pub record ScrubPromises : Type 0 where
   -- Over 32,768 bytes: 3; broken: 4 with the place; and nothing is written.
   pub long : (s exit : List ℕ) (r : ScrubAnswer) → 32768 < length s → Scrubbed s r exit → (scrubNumber r ≡ 3) × (exit ≡ s)
@@ -75,8 +75,9 @@ pub record Switched (ns ws : List ℕ) : Type 0 where
   pub words : Below 64 ws
   pub few : (i : ℕ) → i < length ns → dist (getD ws i 0) (codeword (getD ns i 0)) ≤ 7
 
+-- What the writer promises.
 pub record WritePromises : Type 0 where
-  -- A title of 0 or 25 bytes, or 513 numbers: 3; else a bad title byte: 4 with its place; else too little room: 6; else it is done.
+  -- A title of no bytes or of over 24, or over 512 numbers: 3; else a bad title byte: 4 with its place; else too little room: 6; else it is done.
   pub lengths : (title ns image exit : List ℕ) (r : WriteAnswer) → Wrote title ns image r exit → lengthsAllowed title ns ≡ false
       → writeNumber r ≡ 3
   pub bad-byte : (title ns image exit : List ℕ) (r : WriteAnswer) → Wrote title ns image r exit → lengthsAllowed title ns ≡ true
@@ -113,6 +114,7 @@ pub record WritePromises : Type 0 where
       → Read (imageOf (cardOn title ws)) title₀ ns₀ flips₀ r title₁ ns₁ flips₁
       → (r ≡ ReadDone (length title) (length ns)) × (title₁ ≡ laid title title₀) × (ns₁ ≡ laid ns ns₀)
 
+-- What reading back promises.
 pub record ReadPromises : Type 0 where
   -- A refused call writes nothing.
   pub refused : (image title ns flips title′ ns′ flips′ : List ℕ) (r : ReadAnswer) → Read image title ns flips r title′ ns′ flips′
@@ -131,8 +133,8 @@ pub record ReadPromises : Type 0 where
       → cardOf image ≡ sound c
       → Read image title ns flips r title′ ns′ flips′ → roomFor c title ns flips ≡ true
       → (r ≡ ReadDone (length (c .title)) (length (gridsIn (c .parts)))) × (title′ ≡ laid (c .title) title)
-      × (ns′ ≡ laid (map (λ w. dataShown (verdict gridCode w)) (gridsIn (c .parts))) ns)
-      × (flips′ ≡ laid (map (λ w. flipsShown (verdict gridCode w)) (gridsIn (c .parts))) flips)
+      × (ns′ ≡ laid (dataOfGrids (gridsIn (c .parts))) ns)
+      × (flips′ ≡ laid (flipsOfGrids (gridsIn (c .parts))) flips)
 
 -- No second outcome satisfies the statement of a call.
 pub record OneOutcome : Type 0 where

@@ -2,19 +2,17 @@
 -- definition, for the answer and for the memory. Assumes nothing.
 use mathlib.Core.Path.{_≡_}
 use mathlib.Core.Bool.{Bool, _&&_}
-use mathlib.Core.List.{List, map}
+use mathlib.Core.List.{List}
 use Prim.Native.Nat.{ℕ}
 use lib.Dec.{leb}
 use lib.ListN.{length}
 use Rattle.words.specs.Word.{choose}
 use Rattle.words.specs.Bytes.{laid}
-use Rattle.codes.specs.Verdict.{verdict}
-use Rattle.grid_code.specs.Code.{gridCode}
 use Rattle.image.specs.Card.{Card, gridsIn}
 use Rattle.image.specs.Calls.{judged}
 use Rattle.card_read.specs.declared.ReadAnswer.{ReadAnswer}
 use Rattle.card_read.specs.declared.ReadAnswer.the-variants.{Done, Length, Broken, Room}
-use Rattle.card_read.specs.Answer.{dataShown, flipsShown}
+use Rattle.card_read.specs.Answer.{dataOfGrids, flipsOfGrids}
 
 -- room for the title, for each grid's data and for its flips
 abbrev pub roomFor : Card → List ℕ → List ℕ → List ℕ → Bool
@@ -35,7 +33,7 @@ pub record Read (image title numbers flips : List ℕ) (r : ReadAnswer) (title�
   pub title-after : title′ ≡ readAs image title numbers flips title (λ at. title) title (λ c. laid (c .title) title)
   pub numbers-after : numbers′
       ≡ readAs image title numbers flips numbers (λ at. numbers) numbers
-      (λ c. laid (map (λ w. dataShown (verdict gridCode w)) (gridsIn (c .parts))) numbers)
+      (λ c. laid (dataOfGrids (gridsIn (c .parts))) numbers)
   pub flips-after : flips′
       ≡ readAs image title numbers flips flips (λ at. flips) flips
-      (λ c. laid (map (λ w. flipsShown (verdict gridCode w)) (gridsIn (c .parts))) flips)
+      (λ c. laid (flipsOfGrids (gridsIn (c .parts))) flips)

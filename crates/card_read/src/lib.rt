@@ -5,14 +5,13 @@
 // specs/Calls.antt says what the call answers and leaves, and specs/Answer.antt document 01's number for each answer and what is shown of a
 // grid.
 ghost use mathlib.Core.Path.{_≡_};
-ghost use mathlib.Core.List.{map};
 ghost use Prim.Native.Nat.{_*_, _/_, _≤_};
 ghost use lib.ListN.{length};
 ghost use Rattle.words.specs.Fields.{joined};
 ghost use Rattle.words.specs.Bytes.{wordsIn, laid};
 ghost use Rattle.codes.specs.Verdict.{verdict};
 ghost use Rattle.grid_code.specs.Code.{gridCode};
-ghost use Rattle.card_read.specs.Answer.{dataShown, flipsShown};
+ghost use Rattle.card_read.specs.Answer.{dataShown, flipsShown, dataOfGrids, flipsOfGrids};
 ghost use Rattle.card_read.specs.Calls.{Read};
 ghost use Rattle.card_read.specs.Steps.{ReadsGrids, ReadsFields};
 use grid::Grid;
@@ -60,8 +59,8 @@ fn show(grid: Grid) -> Shown
 // The grids of a value, to the front of the two slices.
 fn grids(value: &[u8], numbers: &mut [u16], flips: &mut [u8])
     requires { ⌜ (length (now value) ≤ 8 * length (now numbers)) × (length (now value) ≤ 8 * length (now flips)) ⌝ }
-    ensures { λ r. ⌜ now (numbers .exit) ≡ laid (map (λ w. dataShown (verdict gridCode w)) (wordsIn 8 (length (now (value .entry)) / 8) (now (value .entry)))) (now (numbers .entry)) ⌝ }
-    ensures flips { λ r. ⌜ now (flips .exit) ≡ laid (map (λ w. flipsShown (verdict gridCode w)) (wordsIn 8 (length (now (value .entry)) / 8) (now (value .entry)))) (now (flips .entry)) ⌝ }
+    ensures { λ r. ⌜ now (numbers .exit) ≡ laid (dataOfGrids (wordsIn 8 (length (now (value .entry)) / 8) (now (value .entry)))) (now (numbers .entry)) ⌝ }
+    ensures flips { λ r. ⌜ now (flips .exit) ≡ laid (flipsOfGrids (wordsIn 8 (length (now (value .entry)) / 8) (now (value .entry)))) (now (flips .entry)) ⌝ }
 {
     let n = value.len() / 8;
     let mut i: usize = 0;

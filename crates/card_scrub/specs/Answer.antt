@@ -4,12 +4,12 @@ use Rattle.card_scrub.specs.declared.ScrubAnswer.{ScrubAnswer}
 use Rattle.card_scrub.specs.declared.ScrubAnswer.the-variants.{Done, Length, Broken}
 
 -- Document 01's number for each answer, and the place of the break.
-abbrev pub scrubNumber : ScrubAnswer → ℕ
-scrubNumber (Done t) = 0
-scrubNumber Length = 3
-scrubNumber (Broken at) = 4
+abbrev pub numberOf : ScrubAnswer → ℕ
+numberOf (Done t) = 0
+numberOf Length = 3
+numberOf (Broken at) = 4
 
-abbrev pub scrubPlace : ScrubAnswer → ℕ
-scrubPlace (Done t) = 0
-scrubPlace Length = 0
-scrubPlace (Broken at) = at
+abbrev pub placeOf : ScrubAnswer → ℕ
+placeOf (Done t) = 0
+placeOf Length = 0
+placeOf (Broken at) = at

@@ -17,9 +17,6 @@ use Rattle.card_scrub.specs.Calls.{scrubbedPart, blockTally, talliesOf}
 
 -- ---- tallies
 
-abbrev pub noGrids : Tally
-noGrids = record { grids = 0; clean = 0; mended = 0; lost = 0; flips = 0 }
-
 abbrev pub noBlocks : Blocks
 noBlocks = record { blocks = 0; clean = 0; mended = 0; lost = 0; flips = 0 }
 

@@ -2,7 +2,8 @@
 ghost use mathlib.Core.Path.{_≡_};
 ghost use Prim.Native.Nat.{_*_, _%_, _≤_};
 ghost use lib.ListN.{length};
-ghost use Rattle.card_scrub.specs.Steps.{ScrubbedGrids, ScrubbedBlock, ScrubbedFields, RoomyGrids, RoomyBlocks, noGrids, noBlocks, bothGrids, withBlocks};
+ghost use Rattle.page.specs.Steps.{none};
+ghost use Rattle.card_scrub.specs.Steps.{ScrubbedGrids, ScrubbedBlock, ScrubbedFields, RoomyGrids, RoomyBlocks, noBlocks, bothGrids, withBlocks};
 ghost use Rattle.values.specs.Steps.{Walks};
 use super::Blocks;
 use super::Tallies;
@@ -11,7 +12,7 @@ use image::Field;
 use page::Tally;
 
 fn no_grids() -> Tally
-    ensures { λ r. ⌜ r ≡ noGrids ⌝ }
+    ensures { λ r. ⌜ r ≡ none ⌝ }
 {
     Tally {
         grids: 0,

@@ -4,14 +4,14 @@ use Rattle.card_write.specs.declared.WriteAnswer.{WriteAnswer}
 use Rattle.card_write.specs.declared.WriteAnswer.the-variants.{Done, Length, Title, Room}
 
 -- Document 01's number for each answer, and the place of the bad byte in the title.
-abbrev pub writeNumber : WriteAnswer → ℕ
-writeNumber (Done n) = 0
-writeNumber Length = 3
-writeNumber (Title at) = 4
-writeNumber Room = 6
+abbrev pub numberOf : WriteAnswer → ℕ
+numberOf (Done n) = 0
+numberOf Length = 3
+numberOf (Title at) = 4
+numberOf Room = 6
 
-abbrev pub writePlace : WriteAnswer → ℕ
-writePlace (Done n) = 0
-writePlace Length = 0
-writePlace (Title at) = at
-writePlace Room = 0
+abbrev pub placeOf : WriteAnswer → ℕ
+placeOf (Done n) = 0
+placeOf Length = 0
+placeOf (Title at) = at
+placeOf Room = 0

@@ -22,7 +22,7 @@ cardOn title words = record { title = title; parts = grids words ∷ [] }
 abbrev pub cardWith : List ℕ → List ℕ → Card
 cardWith title numbers = cardOn title (map codeword numbers)
 
--- title, one grids field, end
+-- how many bytes title, one grids field and end have
 abbrev pub sizeWritten : List ℕ → List ℕ → ℕ
 sizeWritten title numbers = 9 + length title + 8 * length numbers
 

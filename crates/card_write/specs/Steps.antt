@@ -4,7 +4,7 @@ use Prim.Native.Nat.{ℕ, _≤_}
 use lib.ListN.{length}
 use Rattle.card_write.specs.Calls.{sizeWritten}
 
--- lengths that are allowed, and room
+-- lengths that are not too long, and room
 pub record Fits (title numbers image : List ℕ) : Type 0 where
   pub title-few : length title ≤ 24
   pub numbers-few : length numbers ≤ 512

@@ -1,4 +1,4 @@
--- What each call of the crate answers: a function of what is lent. Assumes nothing.
+-- What each call of the crate promises: one record a call, which determines the answer. Assumes nothing.
 use mathlib.Core.Path.{_≡_}
 use mathlib.Core.List.{List, []}
 use Prim.Native.Nat.{ℕ}
@@ -12,7 +12,7 @@ use Rattle.image.specs.declared.Outcome.the-variants.{Sound, Length, Bro
 use Rattle.image.specs.Fields.{value, firstBad, fieldOf}
 use Rattle.image.specs.Card.{Part, Card, Found, sound, broken, gridsIn, blocksIn, cardOf}
 
--- by what is found
+-- b of the place where it is broken, s of what is found where it is sound
 abbrev pub byFound : {A B : Type 0} → (ℕ → B) → (A → B) → Found A → B
 byFound b s (sound a) = s a
 byFound b s (broken at) = b at

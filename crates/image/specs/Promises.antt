@@ -43,6 +43,7 @@ pub data Break (s : List ℕ) : ℕ → Type 0 where
   -- bytes behind the end: the offset of the first of them
   behind-end : (c : Card) (b : ℕ) (bytes : List ℕ) → Proper c → s ≡ imageOf c ++ (b ∷ bytes) → Break s (length (imageOf c))
 
+-- What an image and its check promise.
 pub record ImagePromises : Type 0 where
   -- The image of a card holds that card, ..
   pub there-and-back : (c : Card) → Proper c → cardOf (imageOf c) ≡ sound c

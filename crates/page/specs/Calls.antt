@@ -1,4 +1,4 @@
--- What a scrub of a page answers and leaves: functions of the page as it was before. Assumes nothing.
+-- What the call promises: one record, which determines the answer and every grid afterwards. Assumes nothing.
 use mathlib.Core.Path.{_≡_}
 use mathlib.Core.List.{List, map}
 use Prim.Native.Nat.{ℕ}

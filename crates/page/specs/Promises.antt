@@ -19,6 +19,7 @@ pub record Again (first second : Tally) (page exit : List ℕ) : Type 0 where
   pub no-flips : second .flips ≡ 0
   pub unchanged : exit ≡ page
 
+-- What the scrub promises, whatever was read.
 pub record PagePromises : Type 0 where
   -- Page of 512: accepted; 513: refusal 3, and nothing is written.
   pub accepted : (page exit : List ℕ) (r : Outcome) → length page ≤ 512 → Scrubbed page r exit → numberOf r ≡ 0

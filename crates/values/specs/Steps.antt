@@ -1,4 +1,4 @@
--- What the crates above ask of the fields that they walk over. No promise to a caller cites this file. Assumes nothing.
+-- What scrubbing and reading back ask of the fields that they walk over. No promise to a caller cites this file. Assumes nothing.
 use mathlib.Core.Path.{_≡_}
 use mathlib.Core.List.{List}
 use Prim.Native.Nat.{ℕ, _≤_}

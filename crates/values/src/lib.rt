@@ -1,5 +1,5 @@
-// The bytes of a field's value as grids and as words, and back. Each function works at the front of a slice, and does nothing where the
-// lengths do not fit, so that it accepts every input. Its proofs also have the laws of a walk over sound fields, which scrubbing and
+// The bytes of a field's value as grids and as words, and back. Each function works at the front of a slice, and
+// accepts every input; what it does is promised where the lengths fit. Its proofs also have the laws of a walk over sound fields, which scrubbing and
 // reading back share. No promise to a caller cites this crate.
 ghost use mathlib.Core.Path.{_≡_};
 ghost use Prim.Native.Nat.{_*_, _≤_};
