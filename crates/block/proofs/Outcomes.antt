@@ -1,7 +1,7 @@
 -- What the calls leave and answer, over plain values: a block written, and a block found clean, mended or lost. Assumes nothing.
 use mathlib.Core.Path.{_≡_, refl, sym, ap, ap₂, _∙_, subst}
 use mathlib.Core.Logic.{_≢_, _⊎_, inl, inr}
-use mathlib.Core.Bool.{Bool, true, false, _&&_}
+use mathlib.Core.Bool.{Bool, true, false, _&&_, and-false}
 use mathlib.Core.List.{List, [], _∷_, _++_, append-nil}
 use Prim.Native.Nat.{ℕ, zero, suc, _+_, _*_, _/_, _%_, _^_, _≤_, _<_}
 use native.Mathlib.Nat.{mod-lt, zero-add}
@@ -142,11 +142,7 @@ is-allowed values before n m = ap₂ _&&_ (eq-eqb (length values) 32 n) (eq-eqb 
 
 pub not-allowed : (values before : List ℕ) → (length values ≢ 32) ⊎ (length before ≢ 38) → allowed values before ≡ false
 not-allowed values before (inl ne) = ap (λ (t : Bool). t && eqb (length before) 38) (ne-eqb (length values) 32 ne)
-not-allowed values before (inr ne) = ap (λ (t : Bool). eqb (length values) 32 && t) (ne-eqb (length before) 38 ne) ∙ never (eqb (length values) 32)
-  where
-    never : (t : Bool) → (t && false) ≡ false
-    never true = refl
-    never false = refl
+not-allowed values before (inr ne) = ap (λ (t : Bool). eqb (length values) 32 && t) (ne-eqb (length before) 38 ne) ∙ and-false (eqb (length values) 32)
 
 -- the answer and the words, by the test
 encodes : (values before exit : List ℕ) (t : Bool) → allowed values before ≡ t

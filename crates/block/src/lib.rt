@@ -53,15 +53,23 @@ const VALUES: usize = 32;
 
 const WORDS: usize = 38;
 
-// The 32 data words, to the front.
+// The 32 data words, to the front. Four are read before they are written: with no store between them the
+// four reads are one load, and the four stores are one.
 fn copy(values: &[u16], words: &mut [u16])
     requires { ⌜ (length (now values) ≡ 32) × (length (now words) ≡ 38) ⌝ }
     ensures { λ r. ⌜ now (words .exit) ≡ paste (now (words .entry)) 0 (now (values .entry)) 32 ⌝ }
 {
     let mut i: usize = 0;
     while i < VALUES {
-        words[i] = values[i];
-        i += 1;
+        let a = values[i];
+        let b = values[i + 1];
+        let c = values[i + 2];
+        let d = values[i + 3];
+        words[i] = a;
+        words[i + 1] = b;
+        words[i + 2] = c;
+        words[i + 3] = d;
+        i += 4;
     }
 }
 
@@ -100,7 +108,7 @@ fn syndrome(words: &[u16]) -> Checks
     requires { ⌜ length (now words) ≡ 38 ⌝ }
     ensures { λ r. ⌜ r ≡ syndromeOf (joined 16 (now (words .entry))) ⌝ }
 {
-    block_code::mix(block_code::said(words), held(words))
+    block_code::mix(block_sums::said(words), held(words))
 }
 
 // The place flipped.
@@ -151,7 +159,7 @@ impl Block {
             return Written::Length;
         }
         copy(values, words);
-        hold(words, block_code::said(values));
+        hold(words, block_sums::said(values));
         Written::Done
     }
 

@@ -2,7 +2,6 @@ pub mod Stack
 pub mod Mixing
 pub mod Syndromes
 pub mod Places
-pub mod Sums
 pub mod Equations
 pub mod Distance
 pub mod Promises

@@ -1,8 +1,8 @@
--- Words that are stacked: linear, what one place gives, how high the stack is, and two words laid on at once. Assumes nothing.
+-- Words that are stacked: linear, what one place gives, how high the stack is, and words laid on words. Assumes nothing.
 use mathlib.Core.Path.{_≡_, refl, sym, ap, ap₂, _∙_, subst}
-use mathlib.Core.List.{List, [], _∷_}
+use mathlib.Core.List.{List, [], _∷_, _++_}
 use Prim.Native.Nat.{ℕ, zero, suc, suc-le-suc, _+_, _*_, _/_, _%_, _^_, _<_}
-use native.Mathlib.Nat.{zero-lt-suc, zero-mul, mul-zero, mul-assoc, mod-eq-of-lt, div-eq-of-lt, le-of-suc-le-suc, not-suc-le-zero, lt-of-lt-of-le, mul-suc}
+use native.Mathlib.Nat.{zero-lt-suc, zero-mul, mul-zero, mul-assoc, mod-eq-of-lt, div-eq-of-lt, le-of-suc-le-suc, not-suc-le-zero, lt-of-lt-of-le, mul-suc, mul-one}
 use native.Mathlib.Omega.{arith}
 use lib.Bits.{bitXor, bitAnd, xor-shr, xor-mod, xor-lt, xor-zero-r}
 use lib.Count.{ones}
@@ -105,13 +105,17 @@ stacked-lt m j f (x ∷ xs) h =
     (shl-lt (m * length xs + j) m (stacked-lt m j f xs (λ i l. h (suc i) (suc-le-suc l))))
     (lt-of-lt-of-le (h 0 (zero-lt-suc (length xs))) (pow-mono (omega arith))))
 
--- ---- two words at once
+-- ---- words on words
 
-pub stacked-two : (m : ℕ) (f : ℕ → ℕ) (a b : ℕ) (xs : List ℕ)
-    → stacked m f (a ∷ b ∷ xs) ≡ bitXor (stacked m f xs * 2 ^ (m + m)) (bitXor (f b * 2 ^ m) (f a))
+pub stacked-append : (m : ℕ) (f : ℕ → ℕ) (xs ys : List ℕ)
+    → stacked m f (xs ++ ys) ≡ bitXor (stacked m f ys * 2 ^ (m * length xs)) (stacked m f xs)
 unfolding stacked
-stacked-two m f a b xs =
-    ap (λ (x : ℕ). bitXor x (f a)) (xor-shl m (stacked m f xs * 2 ^ m) (f b))
-    ∙ xor-assoc (stacked m f xs * 2 ^ m * 2 ^ m) (f b * 2 ^ m) (f a)
-    ∙ ap (λ (x : ℕ). bitXor x (bitXor (f b * 2 ^ m) (f a)))
-    (mul-assoc (stacked m f xs) (2 ^ m) (2 ^ m) ∙ ap (λ (x : ℕ). stacked m f xs * x) (sym (pow-add 2 m m)))
+stacked-append m f [] ys =
+    sym (xor-zero-r (stacked m f ys * 2 ^ (m * 0)) ∙ ap (λ (x : ℕ). stacked m f ys * 2 ^ x) (mul-zero m) ∙ mul-one (stacked m f ys))
+stacked-append m f (x ∷ xs) ys =
+    ap (λ (y : ℕ). bitXor (y * 2 ^ m) (f x)) (stacked-append m f xs ys)
+    ∙ ap (λ (y : ℕ). bitXor y (f x)) (xor-shl m (stacked m f ys * 2 ^ (m * length xs)) (stacked m f xs))
+    ∙ xor-assoc (stacked m f ys * 2 ^ (m * length xs) * 2 ^ m) (stacked m f xs * 2 ^ m) (f x)
+    ∙ ap (λ (y : ℕ). bitXor y (bitXor (stacked m f xs * 2 ^ m) (f x)))
+    (mul-assoc (stacked m f ys) (2 ^ (m * length xs)) (2 ^ m)
+    ∙ ap (λ (y : ℕ). stacked m f ys * y) (sym (ap (λ (y : ℕ). 2 ^ y) (mul-suc m (length xs)) ∙ pow-add 2 (m * length xs) m)))

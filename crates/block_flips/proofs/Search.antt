@@ -1,18 +1,20 @@
 -- The steps of the search for flips, over plain values: a place that explains a syndrome, alone or with another. Assumes nothing.
 use mathlib.Core.Path.{_≡_, refl, sym, ap, _∙_, subst}
-use mathlib.Core.Logic.{_⊎_, inl, inr}
+use mathlib.Core.Logic.{_⊎_, inl, inr, _≢_}
 use mathlib.Core.Bool.{Bool, true, false, true≢false}
-use mathlib.Core.List.{List}
-use Prim.Native.Nat.{ℕ, _+_, _*_, _≤_, _<_}
+use Prim.Native.Nat.{ℕ, _+_, _*_, _^_, _≤_, _<_}
 use native.Mathlib.Omega.{arith}
-use lib.ListN.{getD}
+use lib.Bits.{bitXor}
+use lib.Dec.{eqb}
+use borrow.Author.Tests.{eqb-true, eqb-false}
 use Rattle.block_code.specs.Checks.{noChecks, mixed, IsNone, ofPlace}
 use Rattle.block_flips.specs.Steps.{lowestOf, Explained, OnlyPlace, Fails, Tried, Among, Guessed, Found, isMore}
 use Rattle.block_code.specs.declared.Checks.{Checks}
 use Rattle.block_flips.specs.declared.Flips.{Flips}
 use Rattle.block_flips.specs.declared.Flips.the-variants.{One, Two, More}
 use Rattle.block_code.proofs.Mixing.{mixed-self, mixed-comm, mixed-back, eq-of-mixed}
-use Rattle.block_flips.proofs.Guessing.{low32, low16, Named, names}
+use Rattle.block_code.proofs.Places.{dataAt, place-data}
+use Rattle.block_flips.proofs.Guessing.{Only}
 
 -- ---- one place
 
@@ -33,14 +35,31 @@ module _ (s : Checks) (p : ℕ) where
   pub is-alone : Explained p s true → OnlyPlace s p
   is-alone x = record { sound = λ h. x .yes refl .1; all = λ q h e. x .yes refl .0 }
 
--- neither the place of the lowest row and column nor the lowest check
-pub not-alone : (s : Checks) (p q : ℕ) → (low32 s < 32 → low16 s < 16 → p ≡ 16 * low32 s + low16 s) → q ≡ lowestOf s
-    → Explained p s false → Explained q s false → OnlyPlace s 608
-not-alone s p q at is x y = record { sound = λ h. absurd (omega arith); all = λ r h e. absurd (go r h e (names s r h e)) }
-  where
-    go : (r : ℕ) → r < 608 → ofPlace r ≡ s → Named s r → ⊥
-    go r h e (inl (a, b, f)) = let same : p ≡ r = at a b ∙ f in x .no refl (subst (λ (z : ℕ). z < 608) (sym same) h) (ap ofPlace same ∙ e)
-    go r h e (inr f) = let same : q ≡ r = is ∙ f in y .no refl (subst (λ (z : ℕ). z < 608) (sym same) h) (ap ofPlace same ∙ e)
+  pub not-alone : Only s p → Explained p s false → OnlyPlace s 608
+  not-alone only x = record {
+    sound = λ h. absurd (omega arith);
+    all = λ q h e.
+        let same : p ≡ q = only q h e in
+        absurd (x .no refl (subst (λ (z : ℕ). z < 608) (sym same) h) (ap ofPlace same ∙ e));
+  }
+
+-- ---- a data place, check by check
+
+module _ (s : Checks) (r c : ℕ) (hr : r < 32) (hc : c < 16) where
+  pub other-data : dataAt r c ≢ s → Explained (16 * r + c) s false
+  other-data ne = record { yes = λ e. absurd (true≢false (sym e)); no = λ e h q. ne (sym (place-data r c hr hc) ∙ q) }
+
+  pub by-diagonal : s .rows ≡ 2 ^ r → s .columns ≡ 2 ^ c → Explained (16 * r + c) s (eqb (s .diagonals) (bitXor (2 ^ (r + c)) (2 ^ 47)))
+  by-diagonal x y = go (eqb (s .diagonals) (bitXor (2 ^ (r + c)) (2 ^ 47))) refl
+    where
+      go : (b : Bool) → eqb (s .diagonals) (bitXor (2 ^ (r + c)) (2 ^ 47)) ≡ b → Explained (16 * r + c) s b
+      go true e =
+          let z = eqb-true (s .diagonals) (bitXor (2 ^ (r + c)) (2 ^ 47)) e in
+          record {
+            yes = λ t. (omega arith, place-data r c hr hc ∙ (λ i. record { rows = sym x i; columns = sym y i; diagonals = sym z i }));
+            no = λ t. absurd (true≢false t);
+          }
+      go false e = other-data (λ q. eqb-false (s .diagonals) (bitXor (2 ^ (r + c)) (2 ^ 47)) e (sym (ap (λ (k : Checks). k .diagonals) q)))
 
 -- ---- a place tried
 
@@ -64,29 +83,29 @@ module _ (s : Checks) (p : ℕ) where
   pub tried-nowhere : 608 ≤ p → Tried s p More
   tried-nowhere l = record { alone = λ h. absurd (omega arith); paired = λ q h. absurd (omega arith) }
 
--- ---- all guesses
+-- ---- both guesses
 
-module _ (s : Checks) where
-  pub found : (p : ℕ) (f : Flips) → Tried s p f → isMore f ≡ false → Found s f
-  found p (One a) t e = t
-  found p (Two a b) t e = t
-  found p More t e = absurd (true≢false e)
+module _ (s : Checks) (p : ℕ) where
+  pub found : (f : Flips) → Tried s p f → isMore f ≡ false → Found s f
+  found (One a) t e = t
+  found (Two a b) t e = t
+  found More t e = absurd (true≢false e)
 
-  pub failed : (p : ℕ) (f : Flips) → Tried s p f → isMore f ≡ true → Fails s p
-  failed p (One a) t e = absurd (true≢false (sym e))
-  failed p (Two a b) t e = absurd (true≢false (sym e))
-  failed p More t e = t
+  pub failed : (f : Flips) → Tried s p f → isMore f ≡ true → Fails s p
+  failed (One a) t e = absurd (true≢false (sym e))
+  failed (Two a b) t e = absurd (true≢false (sym e))
+  failed More t e = t
 
-  pub none-found : (ps : List ℕ) → Guessed s ps → ((k : ℕ) → k < 5 → Fails s (getD ps k 0)) → Found s More
-  none-found ps g f = record {
-    alone = λ p h e. let (k, l, q) = g .alone p h e in f k l .alone (there k p q h) (ap ofPlace q ∙ e);
-    paired = λ p q h m ne e. go p q h m e (g .paired p q h m ne e);
+  pub none-found : Guessed s p → Fails s p → Fails s (lowestOf s) → Found s More
+  none-found g x y = record {
+    alone = λ q h e. fails q (g .alone q h e) .alone h e;
+    paired = λ q r h m ne e. go q r h m e (g .paired q r h m ne e);
   }
     where
-      there : (k p : ℕ) → getD ps k 0 ≡ p → p < 608 → getD ps k 0 < 608
-      there k p e h = subst (λ (z : ℕ). z < 608) (sym e) h
+      fails : (q : ℕ) → Among s p q → Fails s q
+      fails q (inl e) = subst (Fails s) e x
+      fails q (inr e) = subst (Fails s) e y
 
-      go : (p q : ℕ) → p < 608 → q < 608 → mixed (ofPlace p) (ofPlace q) ≡ s → Among ps p ⊎ Among ps q → ⊥
-      go p q h m e (inl (k, l, x)) = f k l .paired q (there k p x h) m (ap (λ (z : ℕ). mixed (ofPlace z) (ofPlace q)) x ∙ e)
-      go p q h m e (inr (k, l, x)) =
-          f k l .paired p (there k q x m) h (ap (λ (z : ℕ). mixed (ofPlace z) (ofPlace p)) x ∙ mixed-comm (ofPlace q) (ofPlace p) ∙ e)
+      go : (q r : ℕ) → q < 608 → r < 608 → mixed (ofPlace q) (ofPlace r) ≡ s → Among s p q ⊎ Among s p r → ⊥
+      go q r h m e (inl a) = fails q a .paired r h m e
+      go q r h m e (inr a) = fails r a .paired q m h (mixed-comm (ofPlace r) (ofPlace q) ∙ e)

@@ -3,11 +3,9 @@
 use mathlib.Core.Path.{_≡_}
 use mathlib.Core.Logic.{_≢_, _⊎_}
 use mathlib.Core.Bool.{Bool, true, false}
-use mathlib.Core.List.{List}
 use Prim.Native.Nat.{ℕ, _+_, _<_}
 use lib.Count.{trailingZeros}
 use lib.Dec.{eqb}
-use lib.ListN.{getD}
 use Rattle.words.specs.Word.{choose}
 use Rattle.block_code.specs.Checks.{mixed, ofPlace}
 use Rattle.block_code.specs.declared.Checks.{Checks}
@@ -44,14 +42,14 @@ pub record Fails (s : Checks) (p : ℕ) : Type 0 where
 abbrev pub Tried : Checks → ℕ → Flips → Type 0
 Tried s p f = Explains s (Fails s p) f
 
--- p is one of the five guesses
-abbrev pub Among : List ℕ → ℕ → Type 0
-Among ps p = (k : ℕ) × (k < 5) × (getD ps k 0 ≡ p)
+-- q is the place p or the lowest check, the two guesses
+abbrev pub Among : Checks → ℕ → ℕ → Type 0
+Among s p q = (p ≡ q) ⊎ (lowestOf s ≡ q)
 
--- wherever at most two flips explain s, one of them is among the guesses
-pub record Guessed (s : Checks) (ps : List ℕ) : Type 0 where
-  pub alone : (p : ℕ) → p < 608 → ofPlace p ≡ s → Among ps p
-  pub paired : (p q : ℕ) → p < 608 → q < 608 → p ≢ q → mixed (ofPlace p) (ofPlace q) ≡ s → Among ps p ⊎ Among ps q
+-- wherever at most two flips explain s, one of them is p or the lowest check
+pub record Guessed (s : Checks) (p : ℕ) : Type 0 where
+  pub alone : (q : ℕ) → q < 608 → ofPlace q ≡ s → Among s p q
+  pub paired : (q r : ℕ) → q < 608 → r < 608 → q ≢ r → mixed (ofPlace q) (ofPlace r) ≡ s → Among s p q ⊎ Among s p r
 
 -- no one flip and no two explain s
 pub record Unexplained (s : Checks) : Type 0 where

@@ -2,10 +2,14 @@
 // holds differ: guess one of them, and verify it by what is left.
 //
 // A flipped data place is in the syndrome by its row, its column and its diagonal, and two of the three
-// name it. A flipped check spoils one of them. Two data places in one row, or in one column, cancel out
-// there: the lower diagonal is the lower place's. Two that share neither have the lower row with the lower
-// column or with the other one.
+// name it. One is spoilt by a flipped check, or gone where two data places share it. If no row is left, the
+// lowest column and the lowest diagonal are those of one place; if no column is left, the row and the
+// diagonal are. Else, if the lowest row, column and diagonal meet, they meet at a place. If they do not, and
+// there are two columns, the lowest row has the second: the first is another place's, or a flipped check.
+// If there is one column, it has the highest row: a lower one is a flipped check. And where no data place
+// is flipped, the lowest check is.
 ghost use mathlib.Core.Path.{_≡_};
+ghost use mathlib.Core.Logic.{_⊎_};
 ghost use Prim.Native.Nat.{_+_, _-_, _*_, _^_, _≤_, _<_};
 ghost use lib.Bits.{bitXor};
 ghost use lib.Count.{trailingZeros};
@@ -75,17 +79,46 @@ fn explains(place: usize, s: Checks) -> bool
     false
 }
 
-// The place that alone explains s, where there is one.
-fn alone(s: Checks) -> usize
-    ensures { λ p. ⌜ OnlyPlace s p ⌝ }
+// The check that alone explains s, where there is one: for a syndrome with no row or no column.
+fn lone_check(s: Checks) -> usize
+    ensures { λ p. ⌜ ((trailingZeros 32 (s .rows) ≡ 32) ⊎ (trailingZeros 16 (s .columns) ≡ 16) → OnlyPlace s p) ⌝ }
 {
-    let p = place_at(u32::trailing_zeros(s.rows), u16::trailing_zeros(s.columns));
+    let p = lowest(s);
     if explains(p, s) {
         return p;
     }
-    let q = lowest(s);
-    if explains(q, s) {
-        return q;
+    PLACES
+}
+
+// Whether a flip of the data place at row r and column c is all that s says: `explains` of that place,
+// which stops at the first check that differs.
+fn is_data(s: Checks, r: u32, c: u32) -> bool
+    requires { ⌜ (r < 32) × (c < 16) ⌝ }
+    ensures { λ b. ⌜ Explained (16 * r + c) s b ⌝ }
+{
+    if s.rows != 1u32 << r {
+        return false;
+    }
+    if s.columns != 1u16 << c {
+        return false;
+    }
+    s.diagonals == (1u64 << (r + c)) ^ (1u64 << 47)
+}
+
+// The place that alone explains s, where there is one. With no row r is 32, and with no column c is 16.
+fn alone(s: Checks) -> usize
+    ensures { λ p. ⌜ OnlyPlace s p ⌝ }
+{
+    let r = u32::trailing_zeros(s.rows);
+    let c = u16::trailing_zeros(s.columns);
+    if r == 32 {
+        return lone_check(s);
+    }
+    if c == 16 {
+        return lone_check(s);
+    }
+    if is_data(s, r, c) {
+        return place_at(r, c);
     }
     PLACES
 }
@@ -107,21 +140,27 @@ fn attempt(s: Checks, p: usize) -> Flips
     Flips::More
 }
 
-// Five guesses: a place at the lowest row and the lowest column, at row and diagonal, at column and
-// diagonal, at the row and the second column; and the lowest check.
-fn guesses(s: Checks) -> [usize; 5]
-    ensures { λ r. ⌜ Guessed s r ⌝ }
+// The data place to guess: one of the flips, if one of them is a data place.
+fn chosen(s: Checks) -> usize
+    ensures { λ p. ⌜ Guessed s p ⌝ }
 {
     let r = u32::trailing_zeros(s.rows);
     let c = u16::trailing_zeros(s.columns);
     let t = u64::trailing_zeros(s.diagonals);
-    [
-        place_at(r, c),
-        place_at(r, less(t, r)),
-        place_at(less(t, c), c),
-        place_at(r, second(s.columns)),
-        lowest(s),
-    ]
+    if s.rows == 0 {
+        return place_at(less(t, c), c);
+    }
+    if s.columns == 0 {
+        return place_at(r, less(t, r));
+    }
+    if t == r + c {
+        return place_at(r, c);
+    }
+    let other = second(s.columns);
+    if other < 16 {
+        return place_at(r, other);
+    }
+    place_at(less(31, u32::leading_zeros(s.rows)), c)
 }
 
 fn is_more(f: Flips) -> bool
@@ -134,13 +173,14 @@ fn is_more(f: Flips) -> bool
     }
 }
 
-// The flips that explain a syndrome in which some check is set, where there are not more than two.
+// The flips that explain a syndrome in which some check is set, where there are not more than two. A loop
+// over the two guesses, for there `attempt` is compiled in place: two calls of it cost more.
 pub fn nearest(s: Checks) -> Flips
     ensures { λ f. ⌜ Found s f ⌝ }
 {
-    let places = guesses(s);
+    let places = [chosen(s), lowest(s)];
     let mut k: usize = 0;
-    while k < 5 {
+    while k < 2 {
         let tried = attempt(s, places[k]);
         if !is_more(tried) {
             return tried;

@@ -2,11 +2,10 @@
 -- nothing. Assumes nothing.
 use mathlib.Core.Path.{_≡_, refl, sym, ap, ap₂, _∙_}
 use mathlib.Core.List.{List, [], _∷_, _++_, map, map-append}
-use Prim.Native.Nat.{ℕ, zero, suc, _+_, _*_, _^_, _<_}
+use Prim.Native.Nat.{ℕ, _+_, _*_, _^_}
 use native.Mathlib.Omega.{arith}
 use lib.ListN.{length, length-append, length-map}
-use lib.Pow.{pow-pos}
-use Rattle.words.specs.Fields.{fields, Below}
+use Rattle.words.specs.Fields.{fields}
 use Rattle.words.specs.Bytes.{bytesOf}
 use Rattle.words.proofs.Fields.{length-fields}
 use Rattle.words.proofs.Lists.{map-twice}

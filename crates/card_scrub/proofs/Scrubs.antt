@@ -3,11 +3,11 @@ use mathlib.Core.Path.{_≡_, refl, sym, ap, ap₂, _∙_, subst}
 use mathlib.Core.Logic.{⊎-elim}
 use mathlib.Core.Bool.{Bool}
 use mathlib.Core.List.{List, [], _∷_, _++_, map, map-append, append-nil}
-use Prim.Native.Nat.{ℕ, zero, suc, _+_, _-_, _*_, _/_, _%_, _^_, _≤_, _<_}
-use native.Mathlib.Nat.{add-zero, mul-zero, mul-suc, suc-add, add-comm, zero-add}
+use Prim.Native.Nat.{ℕ, _+_, _-_, _*_, _/_, _%_, _^_, _≤_, _<_}
+use native.Mathlib.Nat.{add-zero}
 use native.Mathlib.Omega.{arith}
 use lib.ListN.{length, take, drop, length-append, length-map, length-drop, take-append-drop, drop-of-length-le}
-use lib.Seq.{drop-drop, take-append-le, drop-append-le, take-at, drop-at, length-take-le}
+use lib.Seq.{take-at, drop-at, length-take-le}
 use types.Run.{OneOf}
 use denote.Enum.Declared.{tagOf}
 use borrow.Author.Tests.{eq-eqb}
@@ -17,10 +17,9 @@ use Rattle.words.specs.Bytes.{wordsIn, bytesOf}
 use Rattle.words.proofs.Fields.{length-fields, fields-joined}
 use Rattle.words.proofs.Lists.{part-behind}
 use Rattle.words.proofs.Bytes.{length-words, words-two, bytes-append, bytes-words, words-below}
-use Rattle.codes.specs.Verdict.{Verdict, clean, mended, lost, tie, verdict, scrubbed, repaired, flipsOf}
+use Rattle.codes.specs.Verdict.{Verdict, clean, mended, lost, tie, verdict, scrubbed, flipsOf}
 use Rattle.codes.specs.Tally.{isClean, isMended, isLost, sumBy, TallyPromises}
 use Rattle.codes.proofs.Tally.{unmended, sum-append, tallies}
-use Rattle.codes.proofs.Promises.{clean-word}
 use Rattle.grid_code.specs.Code.{gridCode}
 use Rattle.block_code.specs.Code.{blockCode}
 use Rattle.block.specs.Answer.{answerOf}

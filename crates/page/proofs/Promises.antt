@@ -11,9 +11,8 @@ use borrow.Author.Tests.{le-leb, lt-leb}
 use Rattle.words.specs.Word.{choose}
 use Rattle.words.proofs.Lists.{map-getD, map-twice}
 use Rattle.codes.specs.Verdict.{clean, mended, lost, verdict, repaired, scrubbed}
-use Rattle.codes.specs.Tally.{sumBy, TallyPromises}
-use Rattle.codes.proofs.Promises.{clean-word}
-use Rattle.codes.proofs.Tally.{tallies}
+use Rattle.codes.specs.Tally.{isMended, sumBy, TallyPromises}
+use Rattle.codes.proofs.Tally.{unmended, tallies}
 use Rattle.grid_code.specs.Code.{gridCode}
 use Rattle.grid_code.proofs.Promises as grid
 use Rattle.page.specs.declared.Tally.{Tally}
@@ -58,7 +57,7 @@ laws = tallies gridCode (grid.promised .verdicts)
 -- ---- a clean grid stays as it is
 
 clean-kept : (w d : ℕ) → verdict gridCode w ≡ clean d → scrubbed gridCode w ≡ w
-clean-kept w d e = ap (repaired gridCode w) e ∙ sym (clean-word gridCode (grid.promised .verdicts) w d e .1)
+clean-kept w d e = unmended gridCode (grid.promised .verdicts) w (ap isMended e)
 
 length-kept : (page exit : List ℕ) (r : Outcome) → Scrubbed page r exit → length exit ≡ length page
 length-kept page exit r s = go (decLe (length page) 512)

@@ -1,6 +1,7 @@
 -- `block_flips::attempt` meets its contract. Assumes nothing.
 use mathlib.Core.Path.{ap, _∙_, subst}
 use Prim.Native.Nat.{ℕ}
+use native.Mathlib.Omega.{arith}
 use Rattle.block_code.specs.Checks.{mixed, IsNone}
 use Rattle.block_flips.specs.Steps.{OnlyPlace}
 use Rattle.block_code.specs.declared.Checks.{Checks}
@@ -25,7 +26,7 @@ returns-2 c =
     let q : ℕ = c .before .alone .result in
     let inside = c .before .before .before .before .before .before .if1 .taken in
     let rest = c .before .before .before .before .mix .ensures ∙ ap (mixed s) (c .before .before .before .before .before .of-place .ensures inside) in
-    tried-two s p q inside (c .if3 .taken) (subst (λ (k : Checks). OnlyPlace k q) rest (c .before .alone .ensures))
+    tried-two s p q inside (omega (arith, c .if3 .taken)) (subst (λ (k : Checks). OnlyPlace k q) rest (c .before .alone .ensures))
 
 returns-3 : tie.Need-returns-3
 returns-3 c =

@@ -1,5 +1,5 @@
 -- `block_flips::lowest` meets its contract. Assumes nothing.
-use mathlib.Core.Path.{refl, sym}
+use mathlib.Core.Path.{sym}
 use native.Mathlib.Omega.{arith}
 use lib.Count.{trailing-le}
 use Rattle.block_flips.proofs.Guessing.{lowest-row, lowest-column, lowest-diagonal}
@@ -13,7 +13,7 @@ cast-result : tie.Need-cast-result
 cast-result c = omega (arith, trailing-le 32 (c .before .before .before .args .s .rows))
 
 returns : tie.Need-returns
-returns c = sym (lowest-row (c .before .before .before .args .s) _ (c .before .if1 .taken) refl)
+returns c = sym (lowest-row (c .before .before .before .args .s) (c .before .if1 .taken))
 
 add-result-2 : tie.Need-add-result-2
 add-result-2 c = omega (arith, trailing-le 16 (c .before .before .before .before .before .args .s .columns))
@@ -22,7 +22,7 @@ cast-result-2 : tie.Need-cast-result-2
 cast-result-2 c = omega (arith, trailing-le 16 (c .before .before .before .before .before .args .s .columns))
 
 returns-2 : tie.Need-returns-2
-returns-2 c = sym (lowest-column (c .before .before .before .before .before .args .s) _ (c .before .before .before .if1 .left) (c .before .if2 .taken) refl)
+returns-2 c = sym (lowest-column (c .before .before .before .before .before .args .s) (c .before .before .before .if1 .left) (c .before .if2 .taken))
 
 add-result-3 : tie.Need-add-result-3
 add-result-3 c = omega (arith, trailing-le 64 (c .before .before .before .before .before .args .s .diagonals))
@@ -31,7 +31,7 @@ cast-result-3 : tie.Need-cast-result-3
 cast-result-3 c = omega (arith, trailing-le 64 (c .before .before .before .before .before .args .s .diagonals))
 
 returns-3 : tie.Need-returns-3
-returns-3 c = sym (lowest-diagonal (c .before .before .before .before .before .args .s) _ (c .before .before .before .if1 .left) (c .before .if2 .left) refl)
+returns-3 c = sym (lowest-diagonal (c .before .before .before .before .before .args .s) (c .before .before .before .if1 .left) (c .before .if2 .left))
 
 pub lowest-spec : {M : Type 1} → statement M
 lowest-spec =

@@ -7,11 +7,11 @@ use Prim.Native.Nat.{ℕ, _+_, _-_, _≤_, _<_}
 use native.Mathlib.Omega.{arith}
 use lib.Dec.{leb}
 use lib.ListN.{length, set, take, length-set}
-use lib.Seq.{take-all}
+use lib.Seq.{take-all, set-getD}
 use borrow.Author.Tests.{le-leb, lt-leb}
 use denote.Ref.{now}
 use Rattle.words.specs.Word.{choose}
-use Rattle.words.proofs.Lists.{partly, partly-none, partly-all, set-same}
+use Rattle.words.proofs.Lists.{partly, partly-none, partly-all}
 use Rattle.codes.specs.Verdict.{scrubbed}
 use Rattle.codes.specs.Tally.{sumBy}
 use Rattle.grid_code.specs.Code.{gridCode}
@@ -59,7 +59,7 @@ loop-again c =
     turn-page p (l .page) (l .i) (l .tally) more few (l .inv .1) (l .inv .2) (step .result .word) (step .ensures .0) in
     let page-is : c .if2 .page ≡ set (l .page) (l .i) (step .result .word) =
     ⊎-elim (λ w. w .1)
-    (λ w. w .1 ∙ sym (ap (set (l .page) (l .i)) (w .0 .left) ∙ set-same (l .page) (l .i))) (c .if2 .came) in (
+    (λ w. w .1 ∙ sym (ap (set (l .page) (l .i)) (w .0 .left) ∙ set-getD (l .page) (l .i) 0)) (c .if2 .came) in (
       search needs,
       page-is ∙ written,
       step .ensures .1 ∙ turn-tally p (l .page) (l .i) (l .tally) more few (l .inv .1) (l .inv .2),
