@@ -31,14 +31,17 @@ pub fn upper(places: u32) -> u32
 
 // Rows 4 to 7 from rows 0 to 3. Each of them is the parity of all four but one: row 4 leaves out
 // row 2, row 5 row 1, row 6 row 0, and row 7, since rows 4 to 6 add up to row 3, leaves out row 3. So each
-// row takes the row two further on and the one opposite, and all move up by one.
+// row takes the row two further on and the one opposite, and all move up by one. As one term, the rows in
+// the other order are one instruction.
 pub fn lower(rows: u32) -> u32
     ensures { λ r. ⌜ ((d : ℕ) → d < 2 ^ 16 → rows ≡ codeword d % 2 ^ 32 → r ≡ codeword d / 2 ^ 32) ⌝ }
 {
     let pairs = rows ^ (rows << 16) ^ (rows >> 16);
-    let outer = (rows << 24) ^ (rows >> 24);
-    let inner = ((rows << 8) & 0x00FF_0000) ^ ((rows >> 8) & 0x0000_FF00);
-    let mixed = pairs ^ outer ^ inner;
+    let turned = (rows << 24)
+        ^ ((rows << 8) & 0x00FF_0000)
+        ^ ((rows >> 8) & 0x0000_FF00)
+        ^ (rows >> 24);
+    let mixed = pairs ^ turned;
     (mixed << 8) ^ (mixed >> 24)
 }
 

@@ -11,7 +11,7 @@ abbrev pairs : Linear
 pairs = same ⊕ shl same 16 32 ⊕ shr same 16
 
 abbrev mixed : Linear
-mixed = pairs ⊕ (shl same 24 32 ⊕ shr same 24) ⊕ (mask (shl same 8 32) 0x00FF_0000 ⊕ mask (shr same 8) 0x0000_FF00)
+mixed = pairs ⊕ (shl same 24 32 ⊕ mask (shl same 8 32) 0x00FF_0000 ⊕ mask (shr same 8) 0x0000_FF00 ⊕ shr same 24)
 
 abbrev made : Linear
 made = shl mixed 8 32 ⊕ shr mixed 24
