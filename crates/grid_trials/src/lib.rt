@@ -1,7 +1,7 @@
-// The two trials of the grid's decoder, over numbers: the rows put right (rows), the columns solved (columns), and the codeword that is
-// reached. A trial pays 1 for a row that it sets aside and 2 for any other row that it has wrong,
-// and reaches a codeword for which it pays 3 at most. Row by row both together pay no more than the
-// places that differ, so a codeword within seven is reached by one of them.
+// The two trials of the grid's decoder, over numbers: the rows put right (rows), the columns solved
+// (columns), and the codeword that is reached. A trial pays 1 for a row that it sets aside and 2 for any
+// other row that it has wrong, and reaches a codeword for which it pays 3 at most. Row by row both together
+// pay no more than the places that differ, so a codeword within seven is reached by one of them.
 ghost use Prim.Native.Nat.{_<_};
 ghost use Rattle.grid_trials.specs.Steps.{Mended, Tried, Nearby};
 
