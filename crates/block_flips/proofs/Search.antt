@@ -14,7 +14,7 @@ use Rattle.block_flips.specs.declared.Flips.{Flips}
 use Rattle.block_flips.specs.declared.Flips.the-variants.{One, Two, More}
 use Rattle.block_code.proofs.Mixing.{mixed-self, mixed-comm, mixed-back, eq-of-mixed}
 use Rattle.block_code.proofs.Places.{dataAt, place-data}
-use Rattle.block_flips.proofs.Guessing.{Only}
+use Rattle.block_flips.proofs.Naming.{Only}
 
 -- ---- one place
 

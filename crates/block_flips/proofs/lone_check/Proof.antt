@@ -3,7 +3,7 @@ use mathlib.Core.Path.{subst}
 use Prim.Native.Nat.{ℕ}
 use Rattle.block_flips.specs.Steps.{Explained}
 use Rattle.block_code.specs.declared.Checks.{Checks}
-use Rattle.block_flips.proofs.Guessing.{only-check}
+use Rattle.block_flips.proofs.Naming.{only-check}
 use Rattle.block_flips.proofs.Search.{is-alone, not-alone}
 use borrow.Author.Needs.{needs}
 use Rattle.block_flips.proofs.lone_check.Statement.{statement}

@@ -2,7 +2,7 @@
 use mathlib.Core.Path.{sym}
 use native.Mathlib.Omega.{arith}
 use lib.Count.{trailing-le}
-use Rattle.block_flips.proofs.Guessing.{lowest-row, lowest-column, lowest-diagonal}
+use Rattle.block_flips.proofs.Naming.{lowest-row, lowest-column, lowest-diagonal}
 use Rattle.block_flips.proofs.lowest.Statement.{statement}
 use Rattle.block_flips.proofs.lowest.Tie as tie
 
