@@ -17,7 +17,7 @@ use Rattle.block_code.specs.Checks.{noChecks, mixed, saidBy, heldBy, syn
 use Rattle.block_code.specs.declared.Checks.{Checks}
 use Rattle.block_code.proofs.Mixing.{mixed-none}
 use Rattle.block_code.proofs.Syndromes.{rowSums, columnSums, diagonalSums}
-use Rattle.block_code.proofs.Stack.{parity, stack-place, stack-behind}
+use Rattle.block_code.proofs.Stack.{parity, parity-place, stack-place, stack-behind}
 
 -- ---- what one place says
 
@@ -44,9 +44,7 @@ said-none x =
 -- what a data place stands in
 module _ (r c : ℕ) (hr : r < 32) (hc : c < 16) where
   pub rows-at : rowSums .at (2 ^ (16 * r + c)) ≡ 2 ^ r
-  rows-at =
-      stack-place 1 parity 32 r c hr hc ∙ ap (λ (x : ℕ). x % 2 * 2 ^ (1 * r)) (ones-pow c) ∙ one-mul (2 ^ (1 * r))
-      ∙ ap (λ (x : ℕ). 2 ^ x) (one-mul r)
+  rows-at = parity-place 32 r c hr hc
 
   pub columns-at : columnSums .at (2 ^ (16 * r + c)) ≡ 2 ^ c
   columns-at = stack-place 0 same 32 r c hr hc ∙ ap (λ (x : ℕ). 2 ^ c * 2 ^ x) (zero-mul r) ∙ mul-one (2 ^ c)

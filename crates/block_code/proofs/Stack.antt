@@ -2,7 +2,7 @@
 use mathlib.Core.Path.{_≡_, refl, sym, ap, ap₂, _∙_, subst}
 use mathlib.Core.List.{List, [], _∷_, _++_}
 use Prim.Native.Nat.{ℕ, zero, suc, suc-le-suc, _+_, _*_, _/_, _%_, _^_, _<_}
-use native.Mathlib.Nat.{zero-lt-suc, zero-mul, mul-zero, mul-assoc, mod-eq-of-lt, div-eq-of-lt, le-of-suc-le-suc, not-suc-le-zero, lt-of-lt-of-le, mul-suc, mul-one}
+use native.Mathlib.Nat.{zero-lt-suc, zero-mul, one-mul, mul-zero, mul-assoc, mod-eq-of-lt, div-eq-of-lt, le-of-suc-le-suc, not-suc-le-zero, lt-of-lt-of-le, mul-suc, mul-one}
 use native.Mathlib.Omega.{arith}
 use lib.Bits.{bitXor, bitAnd, xor-shr, xor-mod, xor-lt, xor-zero-r}
 use lib.Count.{ones}
@@ -12,6 +12,7 @@ use Rattle.words.specs.Fields.{fields}
 use Rattle.words.proofs.Bit.{by-bit, odd-lt}
 use Rattle.words.proofs.Dist.{ones-xor}
 use Rattle.words.proofs.Linear.{Linear, at-zero}
+use Rattle.words.proofs.Ones.{ones-pow}
 use Rattle.words.proofs.Xor.{xor-assoc, xor-swap, xor-shl}
 use Rattle.block_code.specs.Code.{odd, stacked}
 
@@ -91,6 +92,11 @@ module _ (m : ℕ) (f : Linear) where
     where
       up : 16 * suc n ≡ 16 * n + 16
       up = omega arith
+
+-- a word's parity at one of its places
+pub parity-place : (n r c : ℕ) → r < n → c < 16 → stacked 1 odd (fields 16 n (2 ^ (16 * r + c))) ≡ 2 ^ r
+parity-place n r c l h =
+    stack-place 1 parity n r c l h ∙ ap (λ (x : ℕ). x % 2 * 2 ^ (1 * r)) (ones-pow c) ∙ one-mul (2 ^ (1 * r)) ∙ ap (λ (x : ℕ). 2 ^ x) (one-mul r)
 
 -- ---- how high it is
 

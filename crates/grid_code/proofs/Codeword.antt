@@ -10,11 +10,12 @@ use native.Mathlib.Omega.{arith}
 use lib.Arith.{lt-of-le-ne}
 use lib.Dec.{T, ltb, ltb→lt, eqb, eqb→eq, lit<}
 use lib.Bits.{bitXor, xor-lt, xor-self}
+use lib.ListN.{getD}
 use Rattle.words.specs.Word.{bit, sumOver, IsParity}
 use Rattle.words.proofs.Bit.{bit-xor-sum, bit-zero, eq-of-bits}
 use Rattle.words.proofs.Linear.{Linear, combination, by-places}
 use Rattle.words.proofs.Sum.{parity-rule, zero-next}
-use Rattle.words.proofs.Test.{allPairs, at-below, at-pair, same-pairs}
+use Rattle.words.proofs.Test.{allPairs, at-below, at-pair, same-below, same-pairs}
 use Rattle.words.proofs.Xor.{eq-of-xor}
 use Rattle.grid_code.specs.Equations.{inRow, inColumn, dataBit, Codeword}
 use Rattle.grid_code.specs.Code.{gridsOfBits, codeword}
@@ -54,23 +55,26 @@ codeword-sum = combination gridsOfBits .sum
 abbrev pub grids : Linear
 grids = record { at = codeword; sum = codeword-sum }
 
--- an equation at the grids of one data bit each, in the lines r below n: computed
+-- the grid of data bit k alone, as it is listed
+listed : ℕ → ℕ
+listed k = getD gridsOfBits k 0
+
+-- an equation at the listed grids, in the lines r below n: computed
 module _ (line : ℕ → ℕ → ℕ → ℕ) (n t : ℕ) where
   holds? : List ℕ → ℕ → ℕ → Bool
-  holds? is k r = eqb (line (codeword (2 ^ k)) r t) (sumOver (line (codeword (2 ^ k)) r) is % 2)
+  holds? is k r = eqb (line (listed k) r t) (sumOver (line (listed k) r) is % 2)
 
-  tested : {is : List ℕ} → T (allPairs 16 n (holds? is)) → (k : ℕ) → k < 16 → (r : ℕ) → r < n
-      → IsParity (line (codeword (2 ^ k)) r) t is
+  tested : {is : List ℕ} → T (allPairs 16 n (holds? is)) → (k : ℕ) → k < 16 → (r : ℕ) → r < n → IsParity (line (listed k) r) t is
   unfolding holds?
   tested {is} x k l r h = record {
-    parity = eqb→eq (line (codeword (2 ^ k)) r t) (sumOver (line (codeword (2 ^ k)) r) is % 2) (at-pair 16 n (holds? is) x k r l h);
+    parity = eqb→eq (line (listed k) r t) (sumOver (line (listed k) r) is % 2) (at-pair 16 n (holds? is) x k r l h);
   }
 
-grid-of-bit : (k : ℕ) → k < 16 → Codeword (2 ^ k) (codeword (2 ^ k))
-unfolding codeword holds?
-grid-of-bit k l = record {
-  fits = ltb→lt (codeword (2 ^ k)) (2 ^ 64) (at-below 16 (λ k. ltb (codeword (2 ^ k)) (2 ^ 64)) tt k l);
-  data-places = λ i h. same-pairs 16 16 (λ k i. dataBit (codeword (2 ^ k)) i) (λ k i. bit (2 ^ k) i) tt k i l h;
+listed-grid : (k : ℕ) → k < 16 → Codeword (2 ^ k) (listed k)
+unfolding listed holds?
+listed-grid k l = record {
+  fits = ltb→lt (listed k) (2 ^ 64) (at-below 16 (λ k. ltb (listed k) (2 ^ 64)) tt k l);
+  data-places = λ i h. same-pairs 16 16 (λ k i. dataBit (listed k) i) (λ k i. bit (2 ^ k) i) tt k i l h;
   place4 = tested inRow 4 4 tt k l;
   place5 = tested inRow 4 5 tt k l;
   place6 = tested inRow 4 6 tt k l;
@@ -81,6 +85,10 @@ grid-of-bit k l = record {
   row7 = tested inColumn 7 7 tt k l;
   corner = tested (λ g r. inColumn g 7) 1 7 tt k l 0 (lit< tt);
 }
+
+grid-of-bit : (k : ℕ) → k < 16 → Codeword (2 ^ k) (codeword (2 ^ k))
+unfolding codeword listed
+grid-of-bit k l = subst (Codeword (2 ^ k)) (sym (same-below 16 (λ k. codeword (2 ^ k)) listed tt k l)) (listed-grid k l)
 
 pub is-codeword : (d : ℕ) → d < 2 ^ 16 → Codeword d (codeword d)
 is-codeword =

@@ -228,8 +228,11 @@ by-places P z s (suc n) p x h = go (by-places P z s n (λ k l. p k (omega arith)
     go r (inl e) = subst P (sym e) r
     go r (inr e) = subst P (sym e) (s (2 ^ n) (x % 2 ^ n) (p n (le-refl (suc n))) r)
 
--- two linear maps that agree at each place below n, which is computed, agree on all words of n bits
+-- two linear maps that agree at each place below n agree on all words of n bits, ..
+pub agree-at : (f g : Linear) (n : ℕ) → ((k : ℕ) → k < n → f .at (2 ^ k) ≡ g .at (2 ^ k)) → (x : ℕ) → x < 2 ^ n → f .at x ≡ g .at x
+agree-at f g =
+    by-places (λ (x : ℕ). f .at x ≡ g .at x) (at-zero f ∙ sym (at-zero g)) (λ a b p q. f .sum a b ∙ ap₂ bitXor p q ∙ sym (g .sum a b))
+
+-- .. and the places can be computed
 pub agree : (f g : Linear) (n : ℕ) → T (allBelow n (λ k. eqb (f .at (2 ^ k)) (g .at (2 ^ k)))) → (x : ℕ) → x < 2 ^ n → f .at x ≡ g .at x
-agree f g n t =
-    by-places (λ (x : ℕ). f .at x ≡ g .at x) (at-zero f ∙ sym (at-zero g)) (λ a b p q. f .sum a b ∙ ap₂ bitXor p q ∙ sym (g .sum a b)) n
-    (same-below n (λ k. f .at (2 ^ k)) (λ k. g .at (2 ^ k)) t)
+agree f g n t = agree-at f g n (same-below n (λ k. f .at (2 ^ k)) (λ k. g .at (2 ^ k)) t)

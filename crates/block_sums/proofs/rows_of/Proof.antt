@@ -1,17 +1,19 @@
 -- `block_sums::rows_of` meets its contract: both sides are linear in the 16 words, and agree at each place. Assumes nothing.
-use mathlib.Core.Path.{sym, ap, _∙_}
+use mathlib.Core.Path.{_≡_, sym, ap, _∙_}
 use mathlib.Core.List.{List, [], _∷_}
-use Prim.Native.Nat.{ℕ, _%_, _^_}
+use Prim.Native.Nat.{ℕ, _*_, _+_, _/_, _%_, _^_, _<_}
 use native.Mathlib.Nat.{mod-lt, lt-trans}
+use native.Mathlib.Omega.{arith}
 use lib.Bits.{bitXor, bitAnd, mask-lt}
-use lib.Count.{ones}
 use lib.Dec.{lit<}
 use lib.ListN.{getD}
 use lib.Pow.{pow-pos}
+use Rattle.words.specs.Fields.{fields}
 use Rattle.words.proofs.Fields.{fields-low}
-use Rattle.words.proofs.Linear.{Linear, same, _⊕_, shr, shl, mask, then, field, agree}
-use Rattle.block_code.specs.Code.{stacked, rowsOf}
-use Rattle.block_code.proofs.Stack.{parity, stack}
+use Rattle.words.proofs.Linear.{Linear, same, _⊕_, shr, shl, mask, then, field, agree-at}
+use Rattle.words.proofs.Test.{same-below}
+use Rattle.block_code.specs.Code.{rowsOf}
+use Rattle.block_code.proofs.Stack.{parity, stack, parity-place}
 use Rattle.block_sums.proofs.rows_of.Statement.{statement}
 use Rattle.block_sums.proofs.rows_of.Tie as tie
 
@@ -48,11 +50,16 @@ folded-in = then (then (bytes-in 0 2) fours-down ⊕ then (bytes-in 1 3) fours-u
 cast-result : tie.Need-cast-result
 cast-result c = record { fits = lt-trans (mask-lt (folded (c .args .a ∷ c .args .b ∷ c .args .c ∷ c .args .d ∷ [])) 16) (lit< tt) }
 
+-- each of the 256 places is in the parity of its word
+each-place : (k : ℕ) → k < 256 → bitAnd (folded-in .at (2 ^ k)) 0xFFFF ≡ rowsOf (fields 16 16 (2 ^ k))
+each-place k l =
+    same-below 256 (λ k. bitAnd (folded-in .at (2 ^ k)) 0xFFFF) (λ k. 2 ^ (k / 16)) tt k l
+    ∙ sym (ap (λ (x : ℕ). rowsOf (fields 16 16 (2 ^ x))) (omega arith) ∙ parity-place 16 (k / 16) (k % 16) (omega arith) (omega arith))
+
 returns : tie.Need-returns
-unfolding stacked ones
 returns c w e =
     ap (λ (l : List ℕ). bitAnd (folded l) 0xFFFF) (sym (fields-low 64 4 w ∙ e))
-    ∙ agree (mask folded-in 0xFFFF) (stack 1 parity 16) 256 tt (w % 2 ^ 256) (mod-lt w (pow-pos 256))
+    ∙ agree-at (mask folded-in 0xFFFF) (stack 1 parity 16) 256 each-place (w % 2 ^ 256) (mod-lt w (pow-pos 256))
     ∙ ap rowsOf (fields-low 16 16 w)
 
 pub rows-of-spec : {M : Type 1} → statement M
