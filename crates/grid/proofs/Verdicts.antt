@@ -2,7 +2,7 @@
 use mathlib.Core.Path.{_≡_, refl, sym, ap, ap₂, _∙_, subst}
 use mathlib.Core.Logic.{_≢_}
 use mathlib.Core.Bool.{true}
-use mathlib.Core.List.{List}
+use mathlib.Core.List.{List, map}
 use Prim.Native.Nat.{ℕ, zero, suc, _^_, _≤_, _<_}
 use native.Mathlib.Decide.{decLe}
 use native.Mathlib.Omega.{arith}
@@ -19,8 +19,10 @@ use Rattle.codes.proofs.Promises.{none-near, found, clean-word}
 use Rattle.codes.proofs.Tally.{clean-of}
 use Rattle.grid_code.specs.Code.{codeword, gridCode}
 use Rattle.grid.specs.Calls.{Judged, Decoded}
-use Rattle.grid_trials.specs.Steps.{Nearby}
-use Rattle.grid.specs.declared.Verdict.the-variants.{Clean, Mended, Lost}
+use Rattle.grid_rows.specs.Rows.{mendedRow}
+use Rattle.grid_trials.specs.Steps.{Mended, Nearby}
+use Rattle.grid_trials.proofs.Decoder.{is-mended}
+use Rattle.grid.specs.declared.Verdict.the-variants.{Clean, Mended as Mends, Lost}
 use Rattle.grid_code.proofs.Distance.{distance}
 use Rattle.grid_code.proofs.Places.{gather, gather-lt, gathered, same-data}
 use Rattle.grid_code.proofs.Promises.{promised}
@@ -78,7 +80,12 @@ module _ (rows : List ℕ) (eight : length rows ≡ 8) (small : Below 8 rows) (w
 
   -- ---- by the trials
 
-  module _ (near flips : ℕ) (nearby : Nearby word near flips) where
+  -- near is what the trials reach from the rows put right, which are the number kept
+  module _ (kept : ℕ) (put-right : List ℕ) (p : kept ≡ joined 8 put-right) (q : put-right ≡ map mendedRow rows)
+      (near flips : ℕ) (tried : Mended word kept → Nearby word near flips) where
+    nearby : Nearby word near flips
+    nearby = tried (is-mended rows eight small word kept put-right is p q)
+
     off : flips ≡ dist (joined 8 rows) (codeword (nearby .reached .value))
     off = nearby .reached .places ∙ ap₂ dist is (nearby .reached .is)
 
@@ -106,7 +113,7 @@ module _ (rows : List ℕ) (eight : length rows ≡ 8) (small : Below 8 rows) (w
           let v : verdict gridCode (joined 8 rows) ≡ clean e = answered-is ∙ ap (answered e) z in
           record { answer = sym v; repaired = written (clean e) v refl }
 
-      pub mends : flips ≢ 0 → Decoded rows (record { verdict = Mended e flips; grid = record { rows = out } })
+      pub mends : flips ≢ 0 → Decoded rows (record { verdict = Mends e flips; grid = record { rows = out } })
       mends ne =
           let v : verdict gridCode (joined 8 rows) ≡ mended e flips = answered-is ∙ some-flips e flips ne in
           record { answer = sym v; repaired = written (mended e flips) v refl }

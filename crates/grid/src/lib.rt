@@ -20,12 +20,9 @@
 // The crate grid_code has the parities and what is proved of the code, specs/Calls.antt what each call
 // promises, and specs/Promises.antt what is proved of the calls. As a number a grid has row r in byte r, lowest
 // byte first, and place c of a row in bit c.
-ghost use mathlib.Core.Path.{_≡_};
-ghost use Prim.Native.Nat.{_+_, _*_, _%_, _^_, _<_};
 ghost use Rattle.codes.specs.Promises.{States};
 ghost use Rattle.grid_code.specs.Code.{gridCode};
 ghost use Rattle.grid.specs.Calls.{Encoded, Numbered, Parted, Judged, Decoded};
-use grid_trials::rows;
 
 pub struct Grid {
     pub rows: [u8; 8],
@@ -43,20 +40,6 @@ pub enum Verdict {
 pub struct Answer {
     pub verdict: Verdict,
     pub grid: Grid,
-}
-
-// The lowest byte.
-fn byte(w: u64) -> u8
-    ensures { λ r. ⌜ r ≡ w % 256 ⌝ }
-{
-    (w & 255) as u8
-}
-
-// The number whose lowest byte is `row`, with `above` over it.
-fn with_row(above: u64, row: u8) -> u64
-    ensures { λ r. ⌜ (above < 2 ^ 56 → r ≡ above * 2 ^ 8 + row) ⌝ }
-{
-    (above << 8) | (row as u64)
 }
 
 impl Grid {
@@ -79,37 +62,15 @@ impl Grid {
         ensures { λ r. ⌜ Numbered (self .rows) r ⌝ }
     {
         let rows = self.rows;
-        let a = with_row(rows[7] as u64, rows[6]);
-        let b = with_row(a, rows[5]);
-        let c = with_row(b, rows[4]);
-        let d = with_row(c, rows[3]);
-        let e = with_row(d, rows[2]);
-        let f = with_row(e, rows[1]);
-        with_row(f, rows[0])
+        grid_rows::number(rows)
     }
 
     // The grid that a number is.
     pub fn of_number(w: u64) -> Grid
         ensures { λ r. ⌜ Parted w (r .rows) ⌝ }
     {
-        let b = w >> 8;
-        let c = b >> 8;
-        let d = c >> 8;
-        let e = d >> 8;
-        let f = e >> 8;
-        let g = f >> 8;
-        let h = g >> 8;
         Grid {
-            rows: [
-                byte(w),
-                byte(b),
-                byte(c),
-                byte(d),
-                byte(e),
-                byte(f),
-                byte(g),
-                byte(h),
-            ],
+            rows: grid_rows::of_number(w),
         }
     }
 
@@ -127,10 +88,7 @@ impl Grid {
     {
         let rows = self.rows;
         let word = self.number();
-        let mended = Grid {
-            rows: rows::mended(rows),
-        };
-        let near = grid_trials::nearest(word, mended.number());
+        let near = grid_trials::nearest(word, grid_rows::number(grid_rows::mended(rows)));
         let flips = near.flips;
         if Grid::RADIUS < flips {
             return Answer {

@@ -1,37 +1,18 @@
 -- What the steps of the decoder compute, so that their contracts can say it. No promise to a caller cites this file. Assumes nothing.
 use mathlib.Core.Path.{_≡_}
 use mathlib.Core.Logic.{_⊎_}
-use mathlib.Core.List.{List, [], _∷_}
-use Prim.Native.Nat.{ℕ, _+_, _*_, _%_, _^_, _≤_, _<_, min}
-use lib.Bits.{bitAnd, bitXor, differ}
-use lib.ListN.{getD}
-use Rattle.words.specs.Word.{bit, dist, combined, sumTo}
-use Rattle.codes.specs.Product.{aside, Candidate}
+use Prim.Native.Nat.{ℕ, _+_, _*_, _^_, _≤_, _<_, min}
+use lib.Bits.{bitAnd, differ}
+use Rattle.words.specs.Word.{dist, combined, sumTo}
+use Rattle.codes.specs.Product.{Candidate}
 use Rattle.grid_code.specs.Equations.{inColumn}
 use Rattle.grid_code.specs.Code.{codeword}
-use Rattle.grid_code.specs.Sides.{rowEntries, colEntries, sides, rowOf}
-
--- ---- a row
-
--- the flips that a row needs whose entries combine to 0, to 1, .. to 15: an odd number is a place's entry, an even one takes place 7 besides
-abbrev pub flipsAt : List ℕ
-flipsAt =
-    0x00 ∷ 0x80 ∷ 0x90 ∷ 0x10 ∷ 0xA0 ∷ 0x20 ∷ 0x81 ∷ 0x01
-    ∷ 0xC0 ∷ 0x40 ∷ 0x82 ∷ 0x02 ∷ 0x88 ∷ 0x08 ∷ 0x84 ∷ 0x04 ∷ []
-
--- the row x put right
-unfoldable pub fixed : ℕ → ℕ
-fixed x = bitXor x (getD flipsAt (combined rowEntries (bit x)) 0)
-
--- what a trial needs of the row x: the data places of the row put right, and above them whether each trial sets it aside
-unfoldable pub mendedRow : ℕ → ℕ
-mendedRow x = fixed x % 16 + 16 * aside fixed 1 x + 32 * aside fixed 2 x
+use Rattle.grid_code.specs.Sides.{colEntries, sides, rowOf}
+use Rattle.grid_rows.specs.Rows.{fixed, mendedRow}
 
 -- rows has what a trial needs of each row of the word
 abbrev pub Mended : ℕ → ℕ → Type 0
 Mended word rows = (r : ℕ) → rowOf rows r ≡ mendedRow (rowOf word r)
-
--- ---- a trial
 
 -- aside has place 0 of the rows set aside set, and no other place
 abbrev pub Asides : ℕ → Type 0

@@ -1,12 +1,11 @@
-// The two trials of the grid's decoder, over numbers: the rows put right (rows), the columns solved
-// (columns), and the codeword that is reached. A trial pays 1 for a row that it sets aside and 2 for any
+// The two trials of the grid's decoder, over numbers, on the rows put right (crate grid_rows): the columns
+// solved (columns), and the codeword that is reached. A trial pays 1 for a row that it sets aside and 2 for any
 // other row that it has wrong, and reaches a codeword for which it pays 3 at most. Row by row both together
 // pay no more than the places that differ, so a codeword within seven is reached by one of them.
 ghost use Prim.Native.Nat.{_<_};
 ghost use Rattle.grid_trials.specs.Steps.{Mended, Tried, Nearby};
 
 mod columns;
-pub mod rows;
 
 // How far from the word read a codeword may be.
 const RADIUS: u32 = 7;
@@ -33,7 +32,7 @@ fn trial(word: u64, rows: u64, least: u32) -> Near
     }
 }
 
-// What the first trial reaches if it is near enough, and what the second does if not, where `rows` is what `rows::mended` keeps of the word
+// What the first trial reaches if it is near enough, and what the second does if not, where `rows` is what `grid_rows::mended` keeps of the word
 // read: the first sets the rows aside that need two flips, the second those that need one or two.
 pub fn nearest(word: u64, rows: u64) -> Near
     ensures { λ r. ⌜ (Mended word rows → Nearby word (r .number) (r .flips)) ⌝ }

@@ -5,7 +5,6 @@ use native.Mathlib.Omega.{arith}
 use lib.ListN.{getD}
 use mir.Syntax.{w8}
 use mir.Val.{Fits}
-use Rattle.grid_trials.proofs.Decoder.{is-mended}
 use Rattle.grid.proofs.Verdicts.{is-lost, mends-clean, mends}
 use borrow.Author.Needs.{needs}
 use Rattle.grid.proofs.Grid.mend.Statement.{statement}
@@ -20,11 +19,8 @@ returns c =
     let mended = c .before .before .before .mended in
     let kept = c .before .before .number2 in
     let near = c .before .nearest in
-    let is =
-    is-mended rows (search needs) (λ i. small i .fits) (word .result) (kept .result) (mended .result) (word .ensures .answer)
-    (kept .ensures .answer) (mended .ensures) in
-    is-lost rows (search needs) (λ i. small i .fits) (word .result) (word .ensures .answer) (near .result .number) (near .result .flips)
-    (near .ensures is) (omega (arith, c .if1 .taken))
+    is-lost rows (search needs) (λ i. small i .fits) (word .result) (word .ensures .answer) (kept .result)
+    (mended .result) (kept .ensures) (mended .ensures) (near .result .number) (near .result .flips) (near .ensures) (omega (arith, c .if1 .taken))
 
 returns-2 : tie.Need-returns-2
 returns-2 c =
@@ -35,14 +31,11 @@ returns-2 c =
     let mended = c .before .before .before .before .before .before .before .mended in
     let kept = c .before .before .before .before .before .before .number2 in
     let near = c .before .before .before .before .before .nearest in
-    let is =
-    is-mended rows (search needs) (λ i. small i .fits) (word .result) (kept .result) (mended .result) (word .ensures .answer)
-    (kept .ensures .answer) (mended .ensures) in
     let places = c .before .before .before .places-of in
     let value = c .before .before .data-of in
     let grid = c .before .of-number in
-    mends-clean rows (search needs) (λ i. small i .fits) (word .result) (word .ensures .answer) (near .result .number) (near .result .flips)
-    (near .ensures is) (places .result) (value .result) (search needs) (places .ensures) (value .ensures)
+    mends-clean rows (search needs) (λ i. small i .fits) (word .result) (word .ensures .answer) (kept .result)
+    (mended .result) (kept .ensures) (mended .ensures) (near .result .number) (near .result .flips) (near .ensures) (places .result) (value .result) (search needs) (places .ensures) (value .ensures)
     (omega (arith, c .before .before .before .before .if1 .left)) (grid .result .rows) (grid .ensures .answer) (c .if2 .taken)
 
 returns-3 : tie.Need-returns-3
@@ -54,14 +47,11 @@ returns-3 c =
     let mended = c .before .before .before .before .before .before .before .mended in
     let kept = c .before .before .before .before .before .before .number2 in
     let near = c .before .before .before .before .before .nearest in
-    let is =
-    is-mended rows (search needs) (λ i. small i .fits) (word .result) (kept .result) (mended .result) (word .ensures .answer)
-    (kept .ensures .answer) (mended .ensures) in
     let places = c .before .before .before .places-of in
     let value = c .before .before .data-of in
     let grid = c .before .of-number in
-    mends rows (search needs) (λ i. small i .fits) (word .result) (word .ensures .answer) (near .result .number) (near .result .flips)
-    (near .ensures is) (places .result) (value .result) (search needs) (places .ensures) (value .ensures)
+    mends rows (search needs) (λ i. small i .fits) (word .result) (word .ensures .answer) (kept .result)
+    (mended .result) (kept .ensures) (mended .ensures) (near .result .number) (near .result .flips) (near .ensures) (places .result) (value .result) (search needs) (places .ensures) (value .ensures)
     (omega (arith, c .before .before .before .before .if1 .left)) (grid .result .rows) (grid .ensures .answer) (c .if2 .left)
 
 pub mend-spec : {M : Type 1} → statement M

@@ -1,10 +1,10 @@
 -- `grid_trials::columns::spread` meets its contract: it is linear, and each row of it is the exclusive or of all rows. Assumes nothing.
 use mathlib.Core.Path.{_≡_, sym, ap, _∙_}
-use Prim.Native.Nat.{ℕ, _%_, _^_, _<_}
+use Prim.Native.Nat.{ℕ, _*_, _%_, _^_, _<_}
 use lib.Dec.{eqb}
 use Rattle.words.specs.Word.{bit}
-use Rattle.words.proofs.Fields.{bit-fields}
-use Rattle.words.proofs.Linear.{Linear, same, _⊕_, shr, shl, then, field, total, bit-total, agree}
+use Rattle.words.proofs.Fields.{bit-fields, fields-below}
+use Rattle.words.proofs.Linear.{Linear, same, _⊕_, shr, shl, then, field, total, bit-total, total-lt, agree}
 use Rattle.words.proofs.Sum.{sum-eq}
 use Rattle.words.proofs.Test.{allBelow, at-below}
 use Rattle.grid_code.specs.Equations.{inColumn}
@@ -22,10 +22,18 @@ quarters = halves ⊕ shl halves 16 64 ⊕ shr halves 48
 abbrev made : Linear
 made = quarters ⊕ shl quarters 8 64 ⊕ shr quarters 56
 
-each-row : (w r : ℕ) → w < 2 ^ 64 → r < 8 → rowOf (made .at w) r ≡ total 8 (field 8 8) .at w
+-- all rows combined, and a row in the place of each
+abbrev combined : Linear
+combined = total 8 (field 8 8)
+
+abbrev repeated : Linear
+repeated = total 8 (λ i. shl same (8 * i) 64)
+
+each-row : (w r : ℕ) → w < 2 ^ 64 → r < 8 → rowOf (made .at w) r ≡ combined .at w
 each-row w r h l =
-    agree (then made (field 8 8 r)) (total 8 (field 8 8)) 64
-    (at-below 8 (λ r. allBelow 64 (λ k. eqb (then made (field 8 8 r) .at (2 ^ k)) (total 8 (field 8 8) .at (2 ^ k)))) tt r l) w h
+    ap (λ (x : ℕ). rowOf x r) (agree made (then combined repeated) 64 tt w h)
+    ∙ agree (then repeated (field 8 8 r)) same 8 (at-below 8 (λ r. allBelow 8 (λ k. eqb (then repeated (field 8 8 r) .at (2 ^ k)) (2 ^ k))) tt r l)
+    (combined .at w) (total-lt 8 8 (field 8 8) w (fields-below 8 8 w))
 
 returns : tie.Need-returns
 returns c i r hc hr =

@@ -1,4 +1,4 @@
--- `grid_trials::rows::mended` meets its contract: row after row, each as tested over all 256 rows. Assumes nothing.
+-- `grid_rows::mended` meets its contract: row after row, each as tested over all 256 rows. Assumes nothing.
 use mathlib.Core.Path.{_≡_, _∙_}
 use mathlib.Core.List.{List, [], _∷_}
 use Prim.Native.Nat.{ℕ, _+_, _-_, _/_, _^_, _≤_, _<_}
@@ -13,10 +13,10 @@ use Rattle.words.specs.Word.{dist}
 use Rattle.words.proofs.Lists.{partly, partly-none, partly-step, partly-all}
 use Rattle.words.proofs.Test.{at-below, same-below}
 use Rattle.codes.specs.Product.{aside}
-use Rattle.grid_trials.specs.Steps.{fixed, mendedRow}
+use Rattle.grid_rows.specs.Rows.{fixed, mendedRow}
 use borrow.Author.Needs.{needs}
-use Rattle.grid_trials.proofs.rows.mended.Statement.{statement}
-use Rattle.grid_trials.proofs.rows.mended.Tie as tie
+use Rattle.grid_rows.proofs.mended.Statement.{statement}
+use Rattle.grid_rows.proofs.mended.Tie as tie
 
 -- ---- one row
 

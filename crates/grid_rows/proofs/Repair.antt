@@ -12,7 +12,7 @@ use Rattle.words.proofs.Test.{at-below, same-below}
 use Rattle.codes.specs.Product.{Repair, aside}
 use Rattle.codes.proofs.Trials.{aside-lt}
 use Rattle.grid_code.specs.Sides.{rowEntries, sides}
-use Rattle.grid_trials.specs.Steps.{fixed, mendedRow}
+use Rattle.grid_rows.specs.Rows.{fixed, mendedRow}
 
 pub repair : Repair sides fixed
 unfolding fixed dist ones

@@ -1,4 +1,4 @@
--- `grid::Grid::number` meets its contract: one row after the other, from the highest. Assumes nothing.
+-- `grid_rows::number` meets its contract: one row after the other, from the highest. Assumes nothing.
 use mathlib.Core.Path.{_≡_, sym, ap, _∙_}
 use mathlib.Core.List.{List}
 use Prim.Native.Nat.{ℕ, _+_, _*_, _^_, _<_}
@@ -9,8 +9,8 @@ use mir.Val.{Fits}
 use Rattle.words.specs.Fields.{joined}
 use Rattle.words.proofs.Fields.{listed, listed-getD}
 use borrow.Author.Needs.{needs}
-use Rattle.grid.proofs.Grid.number.Statement.{statement}
-use Rattle.grid.proofs.Grid.number.Tie as tie
+use Rattle.grid_rows.proofs.number.Statement.{statement}
+use Rattle.grid_rows.proofs.number.Tie as tie
 
 -- seven rows put below the highest
 stacked : (f : ℕ → ℕ) → ((i : ℕ) → f i < 2 ^ 8) → (g e d c b a w : ℕ)
@@ -29,17 +29,14 @@ stacked f h g e d c b a w pg pe pd pc pb pa pw =
 
 returns : tie.Need-returns
 returns c =
-    let rows : List ℕ = c .before .before .before .before .before .before .before .before .args .self .rows in
+    let rows : List ℕ = c .before .before .before .before .before .before .before .args .t1 in
     let n : length rows ≡ 8 = search needs in
     let small : (i : ℕ) → Fits w8 (getD rows i 0) = λ i. search needs in
-    record {
-      answer =
-          stacked (λ i. getD rows i 0) (λ i. small i .fits) _ _ _ _ _ _ _ (c .before .before .before .before .before .before .with-row .ensures)
-          (c .before .before .before .before .before .with-row2 .ensures) (c .before .before .before .before .with-row3 .ensures)
-          (c .before .before .before .with-row4 .ensures) (c .before .before .with-row5 .ensures) (c .before .with-row6 .ensures)
-          (c .with-row7 .ensures)
-          ∙ ap (joined 8) (sym (listed-getD 8 rows n));
-    }
+    stacked (λ i. getD rows i 0) (λ i. small i .fits) _ _ _ _ _ _ _ (c .before .before .before .before .before .before .with-row .ensures)
+    (c .before .before .before .before .before .with-row2 .ensures) (c .before .before .before .before .with-row3 .ensures)
+    (c .before .before .before .with-row4 .ensures) (c .before .before .with-row5 .ensures) (c .before .with-row6 .ensures)
+    (c .with-row7 .ensures)
+    ∙ ap (joined 8) (sym (listed-getD 8 rows n))
 
 pub number-spec : {M : Type 1} → statement M
 number-spec =

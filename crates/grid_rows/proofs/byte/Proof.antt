@@ -1,7 +1,7 @@
--- `grid::byte` meets its contract: the mask keeps the lowest eight bits. Assumes nothing.
+-- `grid_rows::byte` meets its contract: the mask keeps the lowest eight bits. Assumes nothing.
 use lib.Bits.{and-mask, mask-lt}
-use Rattle.grid.proofs.byte.Statement.{statement}
-use Rattle.grid.proofs.byte.Tie as tie
+use Rattle.grid_rows.proofs.byte.Statement.{statement}
+use Rattle.grid_rows.proofs.byte.Tie as tie
 
 cast-result : tie.Need-cast-result
 cast-result c = record { fits = mask-lt (c .args .w) 8 }
