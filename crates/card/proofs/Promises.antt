@@ -15,7 +15,7 @@ use Rattle.words.proofs.Bytes.{take-laid, drop-laid}
 use Rattle.codes.specs.Verdict.{verdict}
 use Rattle.grid_code.specs.Code.{codeword, gridCode}
 use Rattle.page.proofs.Promises.{laws}
-use Rattle.image.specs.Fields.{firstBad}
+use Rattle.fields.specs.Fields.{firstBad}
 use Rattle.image.specs.Card.{Card, Found, sound, broken, gridsIn, blocksIn, cardOf, imageOf}
 use Rattle.image.specs.Calls.{byFound, Checked}
 use Rattle.image.specs.Promises.{Proper}

@@ -18,7 +18,7 @@ use Rattle.codes.specs.Verdict.{Verdict, clean, mended, lost, tie, off, verdict
 use Rattle.codes.specs.Promises.{Hands}
 use Rattle.grid_code.specs.Code.{codeword, gridCode}
 use Rattle.grid_code.proofs.Promises.{promised}
-use Rattle.image.specs.Fields.{firstBad, isTitle}
+use Rattle.fields.specs.Fields.{firstBad, isTitle}
 use Rattle.image.specs.Card.{grids, Card, gridsIn, sound, cardOf, partBytes, partsBytes, imageOf}
 use Rattle.image.specs.Promises.{Proper}
 use Rattle.image.proofs.Promises as image

@@ -10,7 +10,7 @@ use Rattle.words.specs.Word.{dist}
 use Rattle.words.specs.Fields.{Below}
 use Rattle.words.specs.Bytes.{laid}
 use Rattle.grid_code.specs.Code.{codeword}
-use Rattle.image.specs.Fields.{firstBad}
+use Rattle.fields.specs.Fields.{firstBad}
 use Rattle.image.specs.Card.{Card, sound, broken, gridsIn, blocksIn, cardOf, imageOf}
 use Rattle.image.specs.Calls.{Checked}
 use Rattle.image.specs.declared.Outcome.{Outcome}

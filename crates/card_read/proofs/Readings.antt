@@ -12,11 +12,10 @@ use Rattle.words.specs.Bytes.{wordsIn, laid}
 use Rattle.words.proofs.Bytes.{length-words, laid-part}
 use Rattle.codes.specs.Verdict.{verdict}
 use Rattle.grid_code.specs.Code.{gridCode}
-use Rattle.image.specs.declared.Field.the-variants.{Grids}
-use Rattle.image.specs.Fields.{value, fieldOf}
+use Rattle.fields.specs.declared.Field.the-variants.{Grids}
+use Rattle.fields.specs.Fields.{value, fieldOf}
+use Rattle.fields.proofs.Fields.{known, length-value, grids-size}
 use Rattle.image.specs.Card.{Part, Card, broken, gridsIn, gridsAt, cardOf}
-use Rattle.image.proofs.Fields.{known, length-value}
-use Rattle.image.proofs.Shape.{grids-size}
 use Rattle.card_read.specs.declared.ReadAnswer.the-variants.{Done, Length, Broken, Room}
 use Rattle.card_read.specs.Answer.{dataShown, flipsShown}
 use Rattle.card_read.specs.Calls.{roomFor, readAs, Read}

@@ -14,9 +14,9 @@ ghost use Rattle.grid_code.specs.Code.{gridCode};
 ghost use Rattle.card_read.specs.Answer.{dataShown, flipsShown, dataOfGrids, flipsOfGrids};
 ghost use Rattle.card_read.specs.Calls.{Read};
 ghost use Rattle.card_read.specs.Steps.{ReadsGrids, ReadsFields};
+use fields::Field;
 use grid::Grid;
 use grid::Verdict;
-use image::Field;
 use image::Outcome;
 
 // The title's length and the number of grids; or refused for the image's length, for a break at an offset,
@@ -78,9 +78,9 @@ fn fields(rest: &[u8], numbers: &mut [u16], flips: &mut [u8])
     requires { ⌜ ReadsFields (now rest) (now numbers) (now flips) ⌝ }
     ensures { λ r. ⌜ ReadsGrids (now (rest .entry)) (now (numbers .entry)) (now (flips .entry)) (now (numbers .exit)) (now (flips .exit)) ⌝ }
 {
-    match image::front(rest) {
+    match fields::front(rest) {
         Field::Grids(n) => {
-            let end = image::HEAD + n;
+            let end = fields::HEAD + n;
             let k = n / 8;
             grids(&rest[3..end], numbers, flips);
             fields(&rest[end..], &mut numbers[k..], &mut flips[k..]);
@@ -111,7 +111,7 @@ pub fn read(image: &[u8], title: &mut [u8], numbers: &mut [u16], flips: &mut [u8
                 return ReadAnswer::Room;
             }
             values::copy(name, title);
-            let end = image::HEAD + name.len();
+            let end = fields::HEAD + name.len();
             fields(&image[end..], numbers, flips);
             ReadAnswer::Done {
                 title: name.len(),

@@ -16,11 +16,11 @@ use Rattle.grid_code.specs.Code.{gridCode}
 use Rattle.block_code.specs.Code.{blockCode}
 use Rattle.page.specs.declared.Tally.{Tally}
 use Rattle.page.specs.Calls.{tallyOf}
-use Rattle.image.specs.declared.Field.the-variants.{Grids, Block}
-use Rattle.image.specs.Fields.{value, fieldOf}
+use Rattle.fields.specs.declared.Field.the-variants.{Grids, Block}
+use Rattle.fields.specs.Fields.{value, fieldOf}
+use Rattle.fields.proofs.Fields.{Stands, known, length-value, grids-size}
 use Rattle.image.specs.Card.{Card, grids, gridsIn, blocksIn, head, partBytes, partsBytes, frontOf, imageOf}
-use Rattle.image.proofs.Fields.{Stands, known, length-value}
-use Rattle.image.proofs.Shape.{split, grids-size}
+use Rattle.image.proofs.Shape.{split}
 use Rattle.card_scrub.specs.declared.Blocks.{Blocks}
 use Rattle.card_scrub.specs.declared.Tallies.{Tallies}
 use Rattle.card_scrub.specs.Calls.{scrubbedPart, scrubbedCard, blockTally, talliesOf}

@@ -43,7 +43,7 @@ pub fn scrub(image: &mut [u8]) -> ScrubAnswer
             blocks: _,
         } => {
             let title = image::title(image).len();
-            let end = image::HEAD + title;
+            let end = fields::HEAD + title;
             ScrubAnswer::Done(scrubbing::fields(&mut image[end..]))
         }
     }

@@ -8,7 +8,7 @@ ghost use Rattle.values.specs.Steps.{Walks};
 use super::Blocks;
 use super::Tallies;
 use block::Block;
-use image::Field;
+use fields::Field;
 use page::Tally;
 
 fn no_grids() -> Tally
@@ -156,9 +156,9 @@ pub(super) fn fields(rest: &mut [u8]) -> Tallies
     requires { ⌜ Walks (now rest) ⌝ }
     ensures { λ r. ⌜ ScrubbedFields (now (rest .entry)) r (now (rest .exit)) ⌝ }
 {
-    match image::front(rest) {
+    match fields::front(rest) {
         Field::Grids(n) => {
-            let end = image::HEAD + n;
+            let end = fields::HEAD + n;
             let here = grids_field(&mut rest[3..end]);
             let there = fields(&mut rest[end..]);
             let grids = there.grids;

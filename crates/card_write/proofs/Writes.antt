@@ -7,7 +7,7 @@ use lib.Dec.{leb}
 use lib.ListN.{length}
 use borrow.Author.Tests.{le-leb, lt-leb, eq-eqb, ne-eqb}
 use Rattle.grid_code.specs.Code.{codeword}
-use Rattle.image.specs.Fields.{firstBad}
+use Rattle.fields.specs.Fields.{firstBad}
 use Rattle.image.specs.Card.{grids, head, partBytes, partsBytes, frontOf, imageOf}
 use Rattle.card_write.specs.Calls.{cardWith, sizeWritten, lengthsAllowed, chosen}
 

@@ -9,7 +9,7 @@ use lib.ListN.{length}
 use Rattle.words.specs.Word.{choose}
 use Rattle.words.specs.Bytes.{laid}
 use Rattle.grid_code.specs.Code.{codeword}
-use Rattle.image.specs.Fields.{titleLength, firstBad}
+use Rattle.fields.specs.Fields.{titleLength, firstBad}
 use Rattle.image.specs.Card.{grids, Card, imageOf}
 use Rattle.card_write.specs.declared.WriteAnswer.{WriteAnswer}
 use Rattle.card_write.specs.declared.WriteAnswer.the-variants.{Done, Length, Title, Room}

@@ -80,7 +80,7 @@ pub fn write(title: &[u8], numbers: &[u16], image: &mut [u8]) -> WriteAnswer
     if numbers.len() > page::MOST {
         return WriteAnswer::Length;
     }
-    let bad = image::first_bad(title);
+    let bad = fields::first_bad(title);
     if bad != title.len() {
         return WriteAnswer::Title(bad);
     }

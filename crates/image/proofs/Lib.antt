@@ -1,5 +1,3 @@
-pub mod Titles
-pub mod Fields
 pub mod Walking
 pub mod Shape
 pub mod Promises

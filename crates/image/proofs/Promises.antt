@@ -12,15 +12,15 @@ use borrow.Author.Tests.{le-leb, lt-leb}
 use Rattle.words.specs.Word.{choose}
 use Rattle.words.specs.Fields.{Below}
 use Rattle.words.proofs.Bytes.{below-drop}
-use Rattle.image.specs.declared.Field.{Field}
-use Rattle.image.specs.declared.Field.the-variants.{Title, Grids, Block, End, Fails}
+use Rattle.fields.specs.declared.Field.{Field}
+use Rattle.fields.specs.declared.Field.the-variants.{Title, Grids, Block, End, Fails}
+use Rattle.fields.specs.Fields.{value, behind, fieldOf}
+use Rattle.fields.proofs.Fields.{past-end, known, found-end}
 use Rattle.image.specs.declared.Outcome.{Outcome}
 use Rattle.image.specs.declared.Outcome.the-variants.{Length, Broken}
-use Rattle.image.specs.Fields.{value, behind, fieldOf}
 use Rattle.image.specs.Card.{Part, Card, Found, sound, broken, before, walk, named, titled, cardOf, head, frontOf, imageOf}
 use Rattle.image.specs.Calls.{byFound, Checked, counts, numberOf, placeOf, titleIn}
 use Rattle.image.specs.Promises.{Proper, Break, no-title, fails, repeated, seventeenth, behind-end, ImagePromises, OneOutcome}
-use Rattle.image.proofs.Fields.{past-end, known, found-end}
 use Rattle.image.proofs.Walking.{full-grids, full-block, walk-end, walk-behind, walk-title, walk-fails}
 use Rattle.image.proofs.Shape.{stands-front, beforeAll, card-over, split, DataAt, Fronted, title-back}
 
@@ -211,7 +211,5 @@ promised = record {
 pub one-outcome : OneOutcome
 one-outcome = record {
   check = λ s a b p q. p .answer ∙ sym (q .answer);
-  front = λ s a b p q. p .answer ∙ sym (q .answer);
-  first-bad = λ s a b p q. p .answer ∙ sym (q .answer);
   title = λ s a b p q. p .answer ∙ sym (q .answer);
 }

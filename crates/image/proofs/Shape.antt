@@ -2,24 +2,24 @@
 -- and the title that are written where they are found. Assumes nothing.
 use mathlib.Core.Path.{_≡_, refl, sym, ap, ap₂, _∙_}
 use mathlib.Core.Logic.{_⊎_, ⊎-elim}
-use mathlib.Core.Bool.{Bool, true, false, _&&_, false≢true}
+use mathlib.Core.Bool.{Bool, true, _&&_}
 use mathlib.Core.List.{List, [], _∷_, _++_, append-assoc}
 use Prim.Native.Nat.{ℕ, zero, suc, _+_, _-_, _*_, _/_, _%_, _≤_, suc-le-suc}
 use native.Mathlib.Omega.{arith}
-use lib.Dec.{leb, eqb}
+use lib.Dec.{eqb}
 use lib.ListN.{length, drop, length-append, take-append-drop}
 use lib.Seq.{take-at, drop-at, drop-drop}
-use borrow.Author.Tests.{leb-true, eqb-true, le-leb, eq-eqb}
+use borrow.Author.Tests.{le-leb, eq-eqb}
 use Rattle.words.specs.Fields.{fields, joined, Below}
 use Rattle.words.specs.Bytes.{wordsIn, bytesOf}
 use Rattle.words.proofs.Fields.{length-fields, fields-below, joined-fields, fields-joined, joined-lt}
 use Rattle.words.proofs.Bytes.{length-words, length-bytes, below-take, below-drop, bytes-words, words-bytes, words-below}
-use Rattle.image.specs.declared.Field.{Field}
-use Rattle.image.specs.declared.Field.the-variants.{Title, Grids, Block, End, Fails}
-use Rattle.image.specs.Fields.{size, value, isTitle, isGrids, fieldOf}
+use Rattle.fields.specs.declared.Field.{Field}
+use Rattle.fields.specs.declared.Field.the-variants.{Title, Grids, Block, End, Fails}
+use Rattle.fields.specs.Fields.{size, value, isTitle, isGrids, fieldOf}
+use Rattle.fields.proofs.Fields.{Stands, known, length-value, grids-size, found-title, found-grids, found-block}
 use Rattle.image.specs.Card.{Part, grids, block, Card, Found, gridsAt, blockAt, before, walk, named, cardOf, head, partBytes, partsBytes, frontOf}
 use Rattle.image.specs.Promises.{ProperPart, AllProper, Proper}
-use Rattle.image.proofs.Fields.{Stands, known, length-value, found-title, found-grids, found-block}
 use Rattle.image.proofs.Walking.{walk-grids, walk-block, card-titled}
 
 -- ---- what is written is found
@@ -125,13 +125,6 @@ split t n (a ∷ b ∷ c ∷ xs) h st =
     let high : b ≡ n / 256 = omega (arith, h 2) in
     let low : c ≡ n % 256 = omega (arith, h 2) in
     cc (take-append-drop n xs, drop-drop n 3 (a ∷ b ∷ c ∷ xs))
-
-pub grids-size : (n : ℕ) → isGrids n ≡ true → (n ≤ 4096) × (n % 8 ≡ 0)
-grids-size n e = go (leb n 4096) refl e
-  where
-    go : (b : Bool) → leb n 4096 ≡ b → b && eqb (n % 8) 0 ≡ true → (n ≤ 4096) × (n % 8 ≡ 0)
-    go true p q = (leb-true n 4096 p, eqb-true (n % 8) 0 q)
-    go false p q = absurd (false≢true q)
 
 module _ (s : List ℕ) (h : Below 8 s) where
   below-value : Below 8 (value s)

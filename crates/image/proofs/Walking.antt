@@ -1,5 +1,6 @@
 -- A walk over the fields, step by step, and what it counts. Assumes nothing.
 use mathlib.Core.Path.{_≡_, refl, sym, ap, ap₂, _∙_}
+use mathlib.Core.Logic.{⊎-elim}
 use mathlib.Core.List.{List, [], _∷_, _++_}
 use Prim.Native.Nat.{ℕ, zero, suc, _+_, _/_}
 use native.Mathlib.Nat.{zero-add}
@@ -11,15 +12,15 @@ use borrow.Author.Tests.{eq-eqb, ne-eqb}
 use Rattle.words.specs.Word.{choose}
 use Rattle.words.specs.Bytes.{wordsIn}
 use Rattle.words.proofs.Bytes.{length-words}
-use Rattle.image.specs.declared.Field.{Field}
-use Rattle.image.specs.declared.Field.the-variants.{Title, Grids, Block, End, Fails}
+use Rattle.fields.specs.declared.Field.{Field}
+use Rattle.fields.specs.declared.Field.the-variants.{Title, Grids, Block, End, Fails}
+use Rattle.fields.specs.Fields.{value, fieldOf}
+use Rattle.fields.proofs.Field.{the-type}
+use Rattle.fields.proofs.Fields.{known}
 use Rattle.image.specs.declared.Outcome.the-variants.{Sound, Broken}
-use Rattle.image.specs.Fields.{value, fieldOf}
 use Rattle.image.specs.Card.{Part, grids, block, Card, Found, sound, broken, gridsIn, blocksIn, gridsAt, blockAt, before, follow, walk, named, titled, cardOf}
-use Rattle.image.specs.Calls.{byFound, counts}
+use Rattle.image.specs.Calls.{byFound, counts, titleIn}
 use Rattle.image.specs.Steps.{counted}
-use Rattle.image.proofs.Field.{the-type}
-use Rattle.image.proofs.Fields.{known, untitled}
 
 -- ---- what is counted
 
@@ -99,6 +100,14 @@ pub card-titled : (s : List ℕ) (n : ℕ) → fieldOf s ≡ Title n → cardOf 
 unfolding cardOf
 card-titled s n e =
     ap (titled s) e ∙ ap (λ (k : ℕ). named (value s) (walk 16 (3 + n) (drop (3 + k) s))) (known s e .0 .size-is)
+
+-- a first field that is no title, as the last arm of a match has it
+pub untitled : (s : List ℕ) (f : Field) → OneOf (1 ∷ 2 ∷ 3 ∷ 4 ∷ []) (tagOf the-type f) → (titled s f ≡ broken 0) × (titleIn s f ≡ [])
+untitled s (Title n) k = absurd (⊎-elim (λ e. omega (arith, e)) (⊎-elim (λ e. omega (arith, e)) (⊎-elim (λ e. omega (arith, e)) (λ e. omega (arith, e)))) k)
+untitled s (Grids n) k = (refl, refl)
+untitled s Block k = (refl, refl)
+untitled s End k = (refl, refl)
+untitled s Fails k = (refl, refl)
 
 pub card-none : (s : List ℕ) (f : Field) → f ≡ fieldOf s → OneOf (1 ∷ 2 ∷ 3 ∷ 4 ∷ []) (tagOf the-type f) → cardOf s ≡ broken 0
 unfolding cardOf

@@ -5,11 +5,11 @@ use Prim.Native.Nat.{ℕ}
 use lib.Dec.{leb}
 use lib.ListN.{length}
 use Rattle.words.specs.Word.{choose}
-use Rattle.image.specs.declared.Field.{Field}
-use Rattle.image.specs.declared.Field.the-variants.{Title, Grids, Block, End, Fails}
+use Rattle.fields.specs.declared.Field.{Field}
+use Rattle.fields.specs.declared.Field.the-variants.{Title, Grids, Block, End, Fails}
+use Rattle.fields.specs.Fields.{value, fieldOf}
 use Rattle.image.specs.declared.Outcome.{Outcome}
 use Rattle.image.specs.declared.Outcome.the-variants.{Sound, Length, Broken}
-use Rattle.image.specs.Fields.{value, firstBad, fieldOf}
 use Rattle.image.specs.Card.{Part, Card, Found, sound, broken, gridsIn, blocksIn, cardOf}
 
 -- b of the place where it is broken, s of what is found where it is sound
@@ -39,14 +39,6 @@ abbrev pub placeOf : Outcome → ℕ
 placeOf (Sound g b) = 0
 placeOf Length = 0
 placeOf (Broken at) = at
-
--- `image::front`: the field at the front of a slice.
-pub record Classified (rest : List ℕ) (r : Field) : Type 0 where
-  pub answer : r ≡ fieldOf rest
-
--- `image::first_bad`: the place of the first bad title byte, or the length.
-pub record Searched (bytes : List ℕ) (r : ℕ) : Type 0 where
-  pub answer : r ≡ firstBad bytes
 
 -- `image::title`: the value of the first field where that is a title, as it stands in the image, and nothing otherwise.
 abbrev pub titleIn : List ℕ → Field → List ℕ

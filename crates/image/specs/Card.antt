@@ -6,9 +6,9 @@ use lib.ListN.{length}
 use Rattle.words.specs.Word.{choose}
 use Rattle.words.specs.Fields.{fields, joined}
 use Rattle.words.specs.Bytes.{wordsIn, bytesOf}
-use Rattle.image.specs.declared.Field.{Field}
-use Rattle.image.specs.declared.Field.the-variants.{Title, Grids, Block, End, Fails}
-use Rattle.image.specs.Fields.{value, behind, fieldOf}
+use Rattle.fields.specs.declared.Field.{Field}
+use Rattle.fields.specs.declared.Field.the-variants.{Title, Grids, Block, End, Fails}
+use Rattle.fields.specs.Fields.{value, behind, fieldOf}
 
 -- a data field: the grids as 64-bit numbers, or a block as one of 608 bits
 pub data Part : Type 0 where

@@ -1,4 +1,3 @@
-pub mod Fields
 pub mod Card
 pub mod Calls
 pub mod Promises

@@ -4,15 +4,14 @@ use mathlib.Core.Path.{_≡_}
 use mathlib.Core.Logic.{_≢_, _⊎_}
 use mathlib.Core.Bool.{true}
 use mathlib.Core.List.{List, [], _∷_, _++_}
-use Prim.Native.Nat.{ℕ, _+_, _^_, _≤_, _<_}
+use Prim.Native.Nat.{ℕ, _^_, _≤_, _<_}
 use lib.ListN.{length}
 use Rattle.words.specs.Fields.{Below}
-use Rattle.image.specs.declared.Field.{Field}
-use Rattle.image.specs.declared.Field.the-variants.{Title, Grids, Block, Fails}
+use Rattle.fields.specs.declared.Field.the-variants.{Title, Grids, Block, Fails}
+use Rattle.fields.specs.Fields.{isTitle, fieldOf}
 use Rattle.image.specs.declared.Outcome.{Outcome}
-use Rattle.image.specs.Fields.{isTitle, fieldOf}
 use Rattle.image.specs.Card.{Part, grids, block, Card, sound, broken, cardOf, frontOf, imageOf}
-use Rattle.image.specs.Calls.{Checked, Classified, Searched, Named, counts, numberOf, placeOf}
+use Rattle.image.specs.Calls.{Checked, Named, counts, numberOf, placeOf}
 
 -- A card that can stand in an image: a title of 1 to 24 bytes, each 20 to 7E hex; at most 16 data fields, each of at most 512 grids or of
 -- one block.
@@ -68,6 +67,4 @@ pub record ImagePromises : Type 0 where
 -- No second outcome satisfies the statement of a call.
 pub record OneOutcome : Type 0 where
   pub check : (s : List ℕ) (a b : Outcome) → Checked s a → Checked s b → a ≡ b
-  pub front : (s : List ℕ) (a b : Field) → Classified s a → Classified s b → a ≡ b
-  pub first-bad : (s : List ℕ) (a b : ℕ) → Searched s a → Searched s b → a ≡ b
   pub title : (s a b : List ℕ) → Named s a → Named s b → a ≡ b

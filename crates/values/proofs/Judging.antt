@@ -7,14 +7,14 @@ use native.Mathlib.Omega.{arith}
 use lib.Dec.{leb}
 use lib.ListN.{length, drop, length-drop}
 use Rattle.words.specs.Word.{choose}
-use Rattle.image.specs.declared.Field.{Field}
-use Rattle.image.specs.declared.Field.the-variants.{Title, Grids, Block, End, Fails}
+use Rattle.fields.specs.declared.Field.{Field}
+use Rattle.fields.specs.declared.Field.the-variants.{Title, Grids, Block, End, Fails}
+use Rattle.fields.specs.Fields.{value, fieldOf}
+use Rattle.fields.proofs.Fields.{Stands, known, length-value}
 use Rattle.image.specs.declared.Outcome.{Outcome}
 use Rattle.image.specs.declared.Outcome.the-variants.{Sound, Length, Broken}
-use Rattle.image.specs.Fields.{value, fieldOf}
 use Rattle.image.specs.Card.{Part, Card, gridsIn, Found, sound, broken, walk, named, titled, cardOf}
 use Rattle.image.specs.Calls.{byFound, judged, counts, Checked, numberOf, placeOf}
-use Rattle.image.proofs.Fields.{Stands, known, length-value}
 use Rattle.image.proofs.Walking.{card-titled}
 use Rattle.values.specs.Steps.{Walks}
 

@@ -12,13 +12,13 @@ use denote.Enum.Declared.{tagOf}
 use Rattle.words.specs.Fields.{Below}
 use Rattle.words.specs.Bytes.{wordsIn}
 use Rattle.words.proofs.Bytes.{length-words}
-use Rattle.image.specs.declared.Field.{Field}
-use Rattle.image.specs.declared.Field.the-variants.{Title, Grids, Block, End, Fails}
-use Rattle.image.specs.Fields.{size, value, fieldOf}
+use Rattle.fields.specs.declared.Field.{Field}
+use Rattle.fields.specs.declared.Field.the-variants.{Title, Grids, Block, End, Fails}
+use Rattle.fields.specs.Fields.{size, value, fieldOf}
+use Rattle.fields.proofs.Field.{the-type}
+use Rattle.fields.proofs.Fields.{known}
 use Rattle.image.specs.Card.{Part, Found, sound, broken, gridsIn, blocksIn, gridsAt, blockAt, before, walk, head}
 use Rattle.values.specs.Steps.{Walks}
-use Rattle.image.proofs.Field.{the-type}
-use Rattle.image.proofs.Fields.{known}
 use Rattle.image.proofs.Walking.{walk-grids, walk-block, full-grids, full-block, walk-end, walk-behind, walk-title, walk-fails}
 use Rattle.image.proofs.Shape.{split}
 

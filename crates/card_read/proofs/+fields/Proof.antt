@@ -11,10 +11,10 @@ use Rattle.words.proofs.Lists.{part-behind, length-part}
 use Rattle.words.proofs.Bytes.{laid-none}
 use Rattle.codes.specs.Verdict.{verdict}
 use Rattle.grid_code.specs.Code.{gridCode}
-use Rattle.image.specs.declared.Field.the-variants.{Grids, Block}
-use Rattle.image.specs.Fields.{fieldOf}
+use Rattle.fields.specs.declared.Field.the-variants.{Grids, Block}
+use Rattle.fields.specs.Fields.{fieldOf}
+use Rattle.fields.proofs.Fields.{known}
 use Rattle.image.specs.Card.{walk, gridsIn}
-use Rattle.image.proofs.Fields.{known}
 use Rattle.card_read.specs.Answer.{dataShown, flipsShown}
 use Rattle.card_read.specs.Steps.{ReadsFields}
 use Rattle.values.proofs.Walks.{less, grids-front, block-front, only-end, value-is, value-long, walks-on, block-walks-on}
@@ -26,7 +26,7 @@ use Rattle.card_read.proofs.fields.Reads as fields
 use Rattle.card_read.proofs.fields.Kinds as fields-kinds
 use Rattle.card_read.proofs.+fields.Lts-fields as lts
 use Rattle.card_read.proofs.grids.Reads as grids-reads
-use Rattle.image.proofs.front.Reads as front-reads
+use Rattle.fields.proofs.front.Reads as front-reads
 use Rattle.card_read.proofs.+fields.{statement}
 use Rattle.card_read.proofs.+fields.Tie.{close}
 

@@ -9,12 +9,12 @@ use denote.Ref.{now}
 use borrow.Author.Tests.{le-leb, lt-leb}
 use Rattle.words.specs.Word.{choose}
 use Rattle.words.proofs.Lists.{part-behind, length-part}
+use Rattle.fields.specs.Fields.{value}
+use Rattle.fields.proofs.Fields.{known}
 use Rattle.image.specs.declared.Outcome.the-variants.{Length, Broken}
-use Rattle.image.specs.Fields.{value}
 use Rattle.image.specs.Card.{Card, Found, walk, cardOf}
 use Rattle.image.specs.Calls.{byFound, judged, counts}
 use Rattle.image.specs.Steps.{counted}
-use Rattle.image.proofs.Fields.{known}
 use Rattle.image.proofs.Walking.{card-titled, card-none, counted-whole}
 use borrow.Author.Needs.{needs}
 use Rattle.image.proofs.check.Statement.{statement}

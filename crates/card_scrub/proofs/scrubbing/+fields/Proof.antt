@@ -7,9 +7,8 @@ use lib.ListN.{length, take, drop, length-drop}
 use denote.Ref.{now}
 use Rattle.words.specs.Fields.{Below}
 use Rattle.codes.specs.Tally.{sumBy}
+use Rattle.fields.proofs.Fields.{known, grids-size}
 use Rattle.image.specs.Card.{head, partsBytes}
-use Rattle.image.proofs.Fields.{known}
-use Rattle.image.proofs.Shape.{grids-size}
 use Rattle.card_scrub.specs.Calls.{scrubbedPart, talliesOf}
 use Rattle.values.specs.Steps.{Walks}
 use Rattle.card_scrub.specs.Steps.{ScrubbedFields}
@@ -28,7 +27,7 @@ use Rattle.card_scrub.proofs.scrubbing.grids_field.Reads as grids-field
 use Rattle.card_scrub.proofs.scrubbing.no_blocks.Reads as no-blocks-reads
 use Rattle.card_scrub.proofs.scrubbing.no_grids.Reads as no-grids-reads
 use Rattle.card_scrub.proofs.scrubbing.with_block.Reads as with-block-reads
-use Rattle.image.proofs.front.Reads as front-reads
+use Rattle.fields.proofs.front.Reads as front-reads
 use Rattle.card_scrub.proofs.scrubbing.+fields.{statement}
 use Rattle.card_scrub.proofs.scrubbing.+fields.Tie.{close}
 

@@ -1,0 +1,9 @@
+-- The promises of the calls on a field. Assumes nothing.
+use mathlib.Core.Path.{sym, _∙_}
+use Rattle.fields.specs.Promises.{OneOutcome}
+
+pub one-outcome : OneOutcome
+one-outcome = record {
+  front = λ s a b p q. p .answer ∙ sym (q .answer);
+  first-bad = λ s a b p q. p .answer ∙ sym (q .answer);
+}
