@@ -1,7 +1,7 @@
 -- The card of a title and of grids with at most seven lamps switched in each: it can stand in an image, reads as what was written, and is
 -- put right as it was written. Assumes nothing.
-use mathlib.Core.Path.{_≡_, refl, sym, ap, _∙_}
-use mathlib.Core.Bool.{Bool, true, false, _&&_, false≢true}
+use mathlib.Core.Path.{_≡_, sym, ap, _∙_}
+use mathlib.Core.Bool.{Bool, true, _&&_, and-eq-true-iff}
 use mathlib.Core.List.{List, [], _++_, map, append-nil}
 use Prim.Native.Nat.{ℕ, _+_, _*_, _≤_, _<_}
 use native.Mathlib.Omega.{arith}
@@ -18,7 +18,8 @@ use Rattle.codes.specs.Verdict.{Verdict, clean, mended, lost, tie, off, verdict
 use Rattle.codes.specs.Promises.{Hands}
 use Rattle.grid_code.specs.Code.{codeword, gridCode}
 use Rattle.grid_code.proofs.Promises.{promised}
-use Rattle.fields.specs.Fields.{firstBad, isTitle}
+use Rattle.fields.specs.Fields.{titleLength, firstBad, isTitle}
+use Rattle.fields.proofs.Titles.{title-length}
 use Rattle.image.specs.Card.{grids, Card, gridsIn, sound, cardOf, partBytes, partsBytes, imageOf}
 use Rattle.image.specs.Promises.{Proper}
 use Rattle.image.proofs.Promises as image
@@ -98,23 +99,16 @@ unfolding partsBytes
 length-on title ws = omega (arith, card-long (cardOn title ws), ap length (append-nil (partBytes (grids ws))), grids-long ws)
 
 -- what the writer's tests say
-both : (a b : Bool) → a && b ≡ true → (a ≡ true) × (b ≡ true)
-both true b e = (refl, e)
-both false b e = absurd (false≢true e)
-
 module _ (title ns : List ℕ) (allowed : lengthsAllowed title ns ≡ true) where
   pub lengths : (1 ≤ length title) × (length title ≤ 24) × (length ns ≤ 512)
   lengths =
-      let (ab, c) = both (leb 1 (length title) && leb (length title) 24) (leb (length ns) 512) allowed in
-      let (a, b) = both (leb 1 (length title)) (leb (length title) 24) ab in
-      (leb-true 1 (length title) a, leb-true (length title) 24 b, leb-true (length ns) 512 c)
+      let (t, n) = and-eq-true-iff (titleLength (length title)) (leb (length ns) 512) .0 allowed in
+      let (l, m) = title-length (length title) t in
+      (l, m, leb-true (length ns) 512 n)
 
   titled : eqb (firstBad title) (length title) ≡ true → isTitle title ≡ true
   titled good =
-      let (l, m, n) = lengths in
-      ap (λ (b : Bool). b && leb (length title) 24 && eqb (firstBad title) (length title)) (le-leb 1 (length title) l)
-      ∙ ap (λ (b : Bool). b && eqb (firstBad title) (length title)) (le-leb (length title) 24 m)
-      ∙ good
+      ap (λ (b : Bool). b && eqb (firstBad title) (length title)) (and-eq-true-iff (titleLength (length title)) (leb (length ns) 512) .0 allowed .0) ∙ good
 
   module _ (good : eqb (firstBad title) (length title) ≡ true) (ws : List ℕ) (s : Switched ns ws) where
     pub proper-on : Proper (cardOn title ws)

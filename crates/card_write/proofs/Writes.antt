@@ -2,12 +2,12 @@
 use mathlib.Core.Path.{_≡_, sym, ap, _∙_}
 use mathlib.Core.Bool.{Bool, true, false, _&&_}
 use mathlib.Core.List.{List, _++_, map, append-assoc, append-nil}
-use Prim.Native.Nat.{ℕ, _+_, _≤_, _<_}
+use Prim.Native.Nat.{ℕ, _≤_, _<_}
 use lib.Dec.{leb}
 use lib.ListN.{length}
 use borrow.Author.Tests.{le-leb, lt-leb, eq-eqb, ne-eqb}
 use Rattle.grid_code.specs.Code.{codeword}
-use Rattle.fields.specs.Fields.{firstBad}
+use Rattle.fields.specs.Fields.{titleLength, firstBad}
 use Rattle.image.specs.Card.{grids, head, partBytes, partsBytes, frontOf, imageOf}
 use Rattle.card_write.specs.Calls.{cardWith, sizeWritten, lengthsAllowed, chosen}
 
@@ -21,24 +21,14 @@ written-is title ns =
     ∙ ap (λ l. head 1 (length title) ++ title ++ l ++ head 127 0) (sym (append-nil field))
 
 module _ (title ns image : List ℕ) where
-  pub no-title : length title < 1 → lengthsAllowed title ns ≡ false
-  no-title h = ap (λ (b : Bool). b && leb (length title) 24 && leb (length ns) 512) (lt-leb 1 (length title) h)
+  pub no-title : titleLength (length title) ≡ false → lengthsAllowed title ns ≡ false
+  no-title e = ap (λ (b : Bool). b && leb (length ns) 512) e
 
-  pub long-title : 1 ≤ length title → 24 < length title → lengthsAllowed title ns ≡ false
-  long-title l h =
-      ap (λ (b : Bool). b && leb (length title) 24 && leb (length ns) 512) (le-leb 1 (length title) l)
-      ∙ ap (λ (b : Bool). b && leb (length ns) 512) (lt-leb (length title) 24 h)
+  pub many-numbers : titleLength (length title) ≡ true → 512 < length ns → lengthsAllowed title ns ≡ false
+  many-numbers e h = ap (λ (b : Bool). b && leb (length ns) 512) e ∙ lt-leb (length ns) 512 h
 
-  titled : 1 ≤ length title → length title ≤ 24 → lengthsAllowed title ns ≡ leb (length ns) 512
-  titled l m =
-      ap (λ (b : Bool). b && leb (length title) 24 && leb (length ns) 512) (le-leb 1 (length title) l)
-      ∙ ap (λ (b : Bool). b && leb (length ns) 512) (le-leb (length title) 24 m)
-
-  pub many-numbers : 1 ≤ length title → length title ≤ 24 → 512 < length ns → lengthsAllowed title ns ≡ false
-  many-numbers l m h = titled l m ∙ lt-leb (length ns) 512 h
-
-  pub allowed : 1 ≤ length title → length title ≤ 24 → length ns ≤ 512 → lengthsAllowed title ns ≡ true
-  allowed l m h = titled l m ∙ le-leb (length ns) 512 h
+  pub allowed : titleLength (length title) ≡ true → length ns ≤ 512 → lengthsAllowed title ns ≡ true
+  allowed e h = ap (λ (b : Bool). b && leb (length ns) 512) e ∙ le-leb (length ns) 512 h
 
   module _ {A : Type 0} (long : A) (bad : ℕ → A) (short done : A) where
     pub is-long : lengthsAllowed title ns ≡ false → chosen title ns image long bad short done ≡ long

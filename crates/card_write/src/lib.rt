@@ -71,10 +71,7 @@ fn lay(title: &[u8], numbers: &[u16], image: &mut [u8])
 pub fn write(title: &[u8], numbers: &[u16], image: &mut [u8]) -> WriteAnswer
     ensures { λ r. ⌜ Wrote (now (title .entry)) (now (numbers .entry)) (now (image .entry)) r (now (image .exit)) ⌝ }
 {
-    if title.len() < 1 {
-        return WriteAnswer::Length;
-    }
-    if title.len() > 24 {
+    if !fields::is_title_length(title.len()) {
         return WriteAnswer::Length;
     }
     if numbers.len() > page::MOST {

@@ -1,6 +1,6 @@
 -- Which field stands at the front of the bytes that are left, from the tests that tell it. Assumes nothing.
 use mathlib.Core.Path.{_≡_, refl, sym, ap, ap₂, _∙_, subst}
-use mathlib.Core.Bool.{Bool, true, false, _&&_, false≢true}
+use mathlib.Core.Bool.{Bool, true, false, and-eq-true-iff}
 use mathlib.Core.List.{List}
 use Prim.Native.Nat.{ℕ, _+_, _%_, _≤_, _<_}
 use native.Mathlib.Omega.{arith}
@@ -98,11 +98,7 @@ pub known : (s : List ℕ) {f : Field} → fieldOf s ≡ f → Known s f
 known s e = subst (Known s) e (known-field s)
 
 pub grids-size : (n : ℕ) → isGrids n ≡ true → (n ≤ 4096) × (n % 8 ≡ 0)
-grids-size n e = go (leb n 4096) refl e
-  where
-    go : (b : Bool) → leb n 4096 ≡ b → b && eqb (n % 8) 0 ≡ true → (n ≤ 4096) × (n % 8 ≡ 0)
-    go true p q = (leb-true n 4096 p, eqb-true (n % 8) 0 q)
-    go false p q = absurd (false≢true q)
+grids-size n e = let (l, m) = and-eq-true-iff (leb n 4096) (eqb (n % 8) 0) .0 e in (leb-true n 4096 l, eqb-true (n % 8) 0 m)
 
 -- ---- .. and the field that is found where it stands
 

@@ -6,4 +6,5 @@ pub one-outcome : OneOutcome
 one-outcome = record {
   front = λ s a b p q. p .answer ∙ sym (q .answer);
   first-bad = λ s a b p q. p .answer ∙ sym (q .answer);
+  is-title-length = λ n a b p q. p .answer ∙ sym (q .answer);
 }

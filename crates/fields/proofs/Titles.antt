@@ -1,14 +1,17 @@
--- The first bad byte of a title, as a search from the front finds it. Assumes nothing.
+-- The length of a title, and its first bad byte, as a search from the front finds it. Assumes nothing.
 use mathlib.Core.Path.{_≡_, refl, ap, _∙_}
-use mathlib.Core.Bool.{Bool, true, false, _&&_}
+use mathlib.Core.Bool.{Bool, true, false, _&&_, and-eq-true-iff}
 use mathlib.Core.List.{List}
 use Prim.Native.Nat.{ℕ, suc, _+_, _≤_, _<_}
 use native.Mathlib.Numerals.{add-one}
 use lib.ListN.{length, getD, drop, drop-of-length-le}
 use lib.Seq.{drop-cons}
 use lib.Dec.{leb}
-use borrow.Author.Tests.{le-leb, lt-leb}
-use Rattle.fields.specs.Fields.{titleByte, firstBad}
+use borrow.Author.Tests.{leb-true, le-leb, lt-leb}
+use Rattle.fields.specs.Fields.{titleByte, titleLength, firstBad}
+
+pub title-length : (n : ℕ) → titleLength n ≡ true → (1 ≤ n) × (n ≤ 24)
+title-length n e = let (l, h) = and-eq-true-iff (leb 1 n) (leb n 24) .0 e in (leb-true 1 n l, leb-true n 24 h)
 
 pub low : (b : ℕ) → b < 32 → titleByte b ≡ false
 low b h = ap (λ (t : Bool). t && leb b 126) (lt-leb 32 b h)

@@ -13,7 +13,7 @@
 ghost use mathlib.Core.Path.{_≡_};
 ghost use Prim.Native.Nat.{_≤_, _<_};
 ghost use lib.ListN.{length};
-ghost use Rattle.fields.specs.Calls.{Classified, Searched};
+ghost use Rattle.fields.specs.Calls.{Classified, Searched, Measured};
 ghost use Rattle.fields.specs.Fields.{size, isTitle, isGrids, otherField};
 
 // What stands at the front of a slice. Title and grids come with the length of their value; Fails: at
@@ -57,14 +57,21 @@ pub fn first_bad(bytes: &[u8]) -> usize
     i
 }
 
+// Whether a title can have this length.
+pub fn is_title_length(n: usize) -> bool
+    ensures { λ r. ⌜ Measured n r ⌝ }
+{
+    if n < 1 {
+        return false;
+    }
+    n <= 24
+}
+
 // Whether these bytes are the value of a title.
 fn is_title(bytes: &[u8]) -> bool
     ensures { λ r. ⌜ r ≡ isTitle (now (bytes .entry)) ⌝ }
 {
-    if bytes.len() < 1 {
-        return false;
-    }
-    if bytes.len() > 24 {
+    if !is_title_length(bytes.len()) {
         return false;
     }
     first_bad(bytes) == bytes.len()

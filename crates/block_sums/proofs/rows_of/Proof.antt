@@ -1,7 +1,7 @@
 -- `block_sums::rows_of` meets its contract: both sides are linear in the 16 words, and agree at each place. Assumes nothing.
 use mathlib.Core.Path.{_≡_, sym, ap, _∙_}
 use mathlib.Core.List.{List, [], _∷_}
-use Prim.Native.Nat.{ℕ, _*_, _+_, _/_, _%_, _^_, _<_}
+use Prim.Native.Nat.{ℕ, _/_, _%_, _^_, _<_}
 use native.Mathlib.Nat.{mod-lt, lt-trans}
 use native.Mathlib.Omega.{arith}
 use lib.Bits.{bitXor, bitAnd, mask-lt}
