@@ -30,7 +30,8 @@ use Rattle.card_write.specs.declared.WriteAnswer.the-variants.{Done as WriteDon
 use Rattle.card_read.specs.declared.ReadAnswer.{ReadAnswer}
 use Rattle.card_read.specs.declared.ReadAnswer.the-variants.{Done as ReadDone, Length as ReadLength}
 use Rattle.card_read.specs.declared.ReadAnswer.the-variants.{Broken as ReadBroken, Room as ReadRoom}
-use Rattle.card_read.specs.Answer.{dataShown, flipsShown, numberOf as readNumber, placeOf as readPlace}
+use Rattle.value_read.specs.Shown.{dataShown, flipsShown}
+use Rattle.card_read.specs.Answer.{numberOf as readNumber, placeOf as readPlace}
 use Rattle.card_scrub.specs.Answer.{numberOf as scrubNumber, placeOf as scrubPlace}
 use Rattle.card_write.specs.Answer.{numberOf as writeNumber, placeOf as writePlace}
 use Rattle.card_scrub.specs.Calls.{scrubbedPart, scrubbedCard, talliesOf, Scrubbed}

@@ -25,7 +25,7 @@ use Rattle.image.specs.Promises.{Proper}
 use Rattle.image.proofs.Promises as image
 use Rattle.card_read.specs.declared.ReadAnswer.{ReadAnswer}
 use Rattle.card_read.specs.declared.ReadAnswer.the-variants.{Done, Length, Broken, Room}
-use Rattle.card_read.specs.Answer.{dataShown, flipsShown}
+use Rattle.value_read.specs.Shown.{dataShown, flipsShown}
 use Rattle.card_write.specs.Calls.{cardOn, lengthsAllowed}
 use Rattle.card_read.specs.Calls.{roomFor, readAs, Read}
 use Rattle.card.specs.Promises.{Switched}

@@ -22,7 +22,8 @@ use Rattle.card_write.specs.declared.WriteAnswer.{WriteAnswer}
 use Rattle.card_write.specs.declared.WriteAnswer.the-variants.{Done as WriteDone}
 use Rattle.card_read.specs.declared.ReadAnswer.{ReadAnswer}
 use Rattle.card_read.specs.declared.ReadAnswer.the-variants.{Done as ReadDone}
-use Rattle.card_read.specs.Answer.{dataOfGrids, flipsOfGrids, numberOf as readNumber, placeOf as readPlace}
+use Rattle.value_read.specs.Shown.{dataOfGrids, flipsOfGrids}
+use Rattle.card_read.specs.Answer.{numberOf as readNumber, placeOf as readPlace}
 use Rattle.card_scrub.specs.Answer.{numberOf as scrubNumber, placeOf as scrubPlace}
 use Rattle.card_write.specs.Answer.{numberOf as writeNumber, placeOf as writePlace}
 use Rattle.card_scrub.specs.Calls.{talliesOf, scrubbedCard, Scrubbed}

@@ -10,14 +10,12 @@ use borrow.Author.Tests.{le-leb, lt-leb}
 use Rattle.words.specs.Word.{choose}
 use Rattle.words.specs.Bytes.{wordsIn, laid}
 use Rattle.words.proofs.Bytes.{length-words, laid-part}
-use Rattle.codes.specs.Verdict.{verdict}
-use Rattle.grid_code.specs.Code.{gridCode}
 use Rattle.fields.specs.declared.Field.the-variants.{Grids}
 use Rattle.fields.specs.Fields.{value, fieldOf}
 use Rattle.fields.proofs.Fields.{known, length-value, grids-size}
 use Rattle.image.specs.Card.{Part, Card, broken, gridsIn, gridsAt, cardOf}
 use Rattle.card_read.specs.declared.ReadAnswer.the-variants.{Done, Length, Broken, Room}
-use Rattle.card_read.specs.Answer.{dataShown, flipsShown}
+use Rattle.value_read.specs.Shown.{dataOfGrids, flipsOfGrids}
 use Rattle.card_read.specs.Calls.{roomFor, readAs, Read}
 use Rattle.values.proofs.Walks.{Front}
 use Rattle.values.proofs.Judging.{Whole, judged-long, judged-as}
@@ -54,10 +52,10 @@ module _ (s : List ℕ) (ps : List Part) (n left next : ℕ) (f : fieldOf s ≡ 
 
 module _ (image title numbers flips : List ℕ) where
   abbrev datas : Card → List ℕ
-  datas c = laid (map (λ w. dataShown (verdict gridCode w)) (gridsIn (c .parts))) numbers
+  datas c = laid (dataOfGrids (gridsIn (c .parts))) numbers
 
   abbrev counts : Card → List ℕ
-  counts c = laid (map (λ w. flipsShown (verdict gridCode w)) (gridsIn (c .parts))) flips
+  counts c = laid (flipsOfGrids (gridsIn (c .parts))) flips
 
   module _ {A : Type 0} (long : A) (breaks : ℕ → A) (short : A) (fine : Card → A) where
     abbrev chosen : Card → A

@@ -12,7 +12,7 @@ use Rattle.image.specs.Card.{Card, gridsIn}
 use Rattle.image.specs.Calls.{judged}
 use Rattle.card_read.specs.declared.ReadAnswer.{ReadAnswer}
 use Rattle.card_read.specs.declared.ReadAnswer.the-variants.{Done, Length, Broken, Room}
-use Rattle.card_read.specs.Answer.{dataOfGrids, flipsOfGrids}
+use Rattle.value_read.specs.Shown.{dataOfGrids, flipsOfGrids}
 
 -- room for the title, for each grid's data and for its flips
 abbrev pub roomFor : Card → List ℕ → List ℕ → List ℕ → Bool

@@ -6,7 +6,7 @@ use lib.ListN.{length}
 use Rattle.words.specs.Bytes.{laid}
 use Rattle.image.specs.Card.{Part, sound, gridsIn, walk}
 use Rattle.values.specs.Steps.{Walks}
-use Rattle.card_read.specs.Answer.{dataOfGrids, flipsOfGrids}
+use Rattle.value_read.specs.Shown.{dataOfGrids, flipsOfGrids}
 
 -- sound, with room for each grid
 pub record ReadsFields (rest numbers flips : List ℕ) : Type 0 where

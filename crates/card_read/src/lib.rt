@@ -2,21 +2,13 @@
 //
 // The image is checked as a whole before anything is written (crate image), so a refused call leaves all that it was lent as it was.
 //
-// specs/Calls.antt says what the call answers and leaves, and specs/Answer.antt document 01's number for each answer and what is shown of a
-// grid.
-ghost use mathlib.Core.Path.{_≡_};
-ghost use Prim.Native.Nat.{_*_, _/_, _≤_};
+// specs/Calls.antt says what the call answers and leaves, and specs/Answer.antt document 01's number for each answer. What is shown of a grid
+// is in the crate value_read.
+ghost use Prim.Native.Nat.{_/_};
 ghost use lib.ListN.{length};
-ghost use Rattle.words.specs.Fields.{joined};
-ghost use Rattle.words.specs.Bytes.{wordsIn, laid};
-ghost use Rattle.codes.specs.Verdict.{verdict};
-ghost use Rattle.grid_code.specs.Code.{gridCode};
-ghost use Rattle.card_read.specs.Answer.{dataShown, flipsShown, dataOfGrids, flipsOfGrids};
 ghost use Rattle.card_read.specs.Calls.{Read};
 ghost use Rattle.card_read.specs.Steps.{ReadsGrids, ReadsFields};
 use fields::Field;
-use grid::Grid;
-use grid::Verdict;
 use image::Outcome;
 
 // The title's length and the number of grids; or refused for the image's length, for a break at an offset,
@@ -28,51 +20,6 @@ pub enum ReadAnswer {
     Room,
 }
 
-// What is shown of a grid.
-struct Shown {
-    pub number: u16,
-    pub flips: u8,
-}
-
-fn show(grid: Grid) -> Shown
-    ensures { λ r. ⌜ r .number ≡ dataShown (verdict gridCode (joined 8 (grid .rows))) ⌝ }
-    ensures flips { λ r. ⌜ r .flips ≡ flipsShown (verdict gridCode (joined 8 (grid .rows))) ⌝ }
-{
-    let answer = grid.decode();
-    let verdict = answer.verdict;
-    match verdict {
-        Verdict::Clean(data) => Shown {
-            number: data,
-            flips: 0,
-        },
-        Verdict::Mended { data, flips } => Shown {
-            number: data,
-            flips: flips as u8,
-        },
-        _ => Shown {
-            number: 0,
-            flips: 255,
-        },
-    }
-}
-
-// The grids of a value, to the front of the two slices.
-fn grids(value: &[u8], numbers: &mut [u16], flips: &mut [u8])
-    requires { ⌜ (length (now value) ≤ 8 * length (now numbers)) × (length (now value) ≤ 8 * length (now flips)) ⌝ }
-    ensures { λ r. ⌜ now (numbers .exit) ≡ laid (dataOfGrids (wordsIn 8 (length (now (value .entry)) / 8) (now (value .entry)))) (now (numbers .entry)) ⌝ }
-    ensures flips { λ r. ⌜ now (flips .exit) ≡ laid (flipsOfGrids (wordsIn 8 (length (now (value .entry)) / 8) (now (value .entry)))) (now (flips .entry)) ⌝ }
-{
-    let n = value.len() / 8;
-    let mut i: usize = 0;
-    while i < n {
-        let at = 8 * i;
-        let grid = show(values::grid(&value[at..]));
-        numbers[i] = grid.number;
-        flips[i] = grid.flips;
-        i += 1;
-    }
-}
-
 // The grids of the data fields at the front of a slice, up to the end field.
 fn fields(rest: &[u8], numbers: &mut [u16], flips: &mut [u8])
     requires { ⌜ ReadsFields (now rest) (now numbers) (now flips) ⌝ }
@@ -82,7 +29,7 @@ fn fields(rest: &[u8], numbers: &mut [u16], flips: &mut [u8])
         Field::Grids(n) => {
             let end = fields::HEAD + n;
             let k = n / 8;
-            grids(&rest[3..end], numbers, flips);
+            value_read::grids(&rest[3..end], numbers, flips);
             fields(&rest[end..], &mut numbers[k..], &mut flips[k..]);
         }
         Field::Block => {

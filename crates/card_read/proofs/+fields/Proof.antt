@@ -9,13 +9,11 @@ use Rattle.words.specs.Fields.{Below}
 use Rattle.words.specs.Bytes.{laid}
 use Rattle.words.proofs.Lists.{part-behind, length-part}
 use Rattle.words.proofs.Bytes.{laid-none}
-use Rattle.codes.specs.Verdict.{verdict}
-use Rattle.grid_code.specs.Code.{gridCode}
 use Rattle.fields.specs.declared.Field.the-variants.{Grids, Block}
 use Rattle.fields.specs.Fields.{fieldOf}
 use Rattle.fields.proofs.Fields.{known}
 use Rattle.image.specs.Card.{walk, gridsIn}
-use Rattle.card_read.specs.Answer.{dataShown, flipsShown}
+use Rattle.value_read.specs.Shown.{dataOfGrid, flipsOfGrid, dataOfGrids, flipsOfGrids}
 use Rattle.card_read.specs.Steps.{ReadsFields}
 use Rattle.values.proofs.Walks.{less, grids-front, block-front, only-end, value-is, value-long, walks-on, block-walks-on}
 use Rattle.card_read.proofs.Readings.{counted, whole-grids, read-on}
@@ -25,16 +23,10 @@ use borrow.Fn.PlainCycle.{Measures, is, falls, and}
 use Rattle.card_read.proofs.fields.Reads as fields
 use Rattle.card_read.proofs.fields.Kinds as fields-kinds
 use Rattle.card_read.proofs.+fields.Lts-fields as lts
-use Rattle.card_read.proofs.grids.Reads as grids-reads
+use Rattle.value_read.proofs.grids.Reads as grids-reads
 use Rattle.fields.proofs.front.Reads as front-reads
 use Rattle.card_read.proofs.+fields.{statement}
 use Rattle.card_read.proofs.+fields.Tie.{close}
-
-abbrev data-in : ℕ → ℕ
-data-in w = dataShown (verdict gridCode w)
-
-abbrev flips-in : ℕ → ℕ
-flips-in w = flipsShown (verdict gridCode w)
 
 abbrev μ-fields : Measures 3 fields-kinds.ps ℕ
 μ-fields κs a = length (a .0 .now)
@@ -84,17 +76,6 @@ module _ (t : ℕ) where
   grids-end c =
       let x = c .before in
       known (now (x .before .before .before .before .before .before .args .rest)) (sym (x .before .before .front .ensures .answer) ∙ x .n .given .1) .0 .room
-
-  grids-fit : lts.Need-grids-requires (front-reads.Asked, front-reads.Learnt, grids-reads.Asked, grids-reads.Learnt, fields-below t, fields.Post) (fields-at t) fields.Post
-  grids-fit c κs =
-      let x = c .before .before .before .before in
-      let st = x .before .before .before .before .before .before in
-      let s = now (st .args .rest) in
-      let n = x .n .given .0 .0 in
-      let f = sym (x .before .before .front .ensures .answer) ∙ x .n .given .1 in
-      let room = room-behind s (now (st .args .numbers)) (now (st .args .flips)) n (st .pre .1) f in
-      let long = value-long s n (known s f .0 .room) in
-      (omega (arith, long, room), omega (arith, long, room))
 
   behind-grids : lts.Need-sub-fields (front-reads.Asked, front-reads.Learnt, grids-reads.Asked, grids-reads.Learnt, fields-below t, fields.Post) (fields-at t) fields.Post
   behind-grids c =
@@ -173,17 +154,20 @@ module _ (t : ℕ) where
       let rest = c .before .before .before .before .fields in
       let part = value-is s n (k .size-is) in
       let room = room-behind s (now (st .args .numbers)) (now (st .args .flips)) n (st .pre .1) f in
+      let long = value-long s n (k .room) in
+      let data-read = grids .ensures .0 (omega (arith, long, room)) (omega (arith, long, room)) in
+      let flips-read = grids .ensures .1 (omega (arith, long, room)) (omega (arith, long, room)) in
       record {
         numbers-after = λ left at ps w.
             let front = grids-front at s ps left n f w in
             let found = ap (walk (less left) (at + (3 + n))) (part-behind (3 + n) s) ∙ front .found in
-            read-on s ps n (less left) (at + (3 + n)) f front data-in (take (3 + n - 3) (drop 3 s)) (now (st .args .numbers)) (grids .last .1 .0)
-            (rest .last .1 .0) part (room .0) (grids .ensures .0) (rest .ensures .numbers-after (less left) (at + (3 + n)) (front .behind) found);
+            read-on s ps n (less left) (at + (3 + n)) f front dataOfGrid (take (3 + n - 3) (drop 3 s)) (now (st .args .numbers)) (grids .last .1 .0)
+            (rest .last .1 .0) part (room .0) data-read (rest .ensures .numbers-after (less left) (at + (3 + n)) (front .behind) found);
         flips-after = λ left at ps w.
             let front = grids-front at s ps left n f w in
             let found = ap (walk (less left) (at + (3 + n))) (part-behind (3 + n) s) ∙ front .found in
-            read-on s ps n (less left) (at + (3 + n)) f front flips-in (take (3 + n - 3) (drop 3 s)) (now (st .args .flips)) (grids .last .1 .1 .0)
-            (rest .last .1 .1 .0) part (room .1) (grids .ensures .1) (rest .ensures .flips-after (less left) (at + (3 + n)) (front .behind) found);
+            read-on s ps n (less left) (at + (3 + n)) f front flipsOfGrid (take (3 + n - 3) (drop 3 s)) (now (st .args .flips)) (grids .last .1 .1 .0)
+            (rest .last .1 .1 .0) part (room .1) flips-read (rest .ensures .flips-after (less left) (at + (3 + n)) (front .behind) found);
       }
 
   past-block : lts.Need-returns-2 (front-reads.Asked, front-reads.Learnt, grids-reads.Asked, grids-reads.Learnt, fields-below t, fields.Post) (fields-at t) fields.Post
@@ -198,12 +182,12 @@ module _ (t : ℕ) where
             let front = block-front at s ps left f w in
             let found = ap (walk (less left) (at + 79)) (part-behind 79 s) ∙ front .found in
             rest .ensures .numbers-after (less left) (at + 79) (front .behind) found
-            ∙ ap (λ ps. laid (map data-in (gridsIn ps)) (now (st .args .numbers))) (sym (front .is));
+            ∙ ap (λ ps. laid (dataOfGrids (gridsIn ps)) (now (st .args .numbers))) (sym (front .is));
         flips-after = λ left at ps w.
             let front = block-front at s ps left f w in
             let found = ap (walk (less left) (at + 79)) (part-behind 79 s) ∙ front .found in
             rest .ensures .flips-after (less left) (at + 79) (front .behind) found
-            ∙ ap (λ ps. laid (map flips-in (gridsIn ps)) (now (st .args .flips))) (sym (front .is));
+            ∙ ap (λ ps. laid (flipsOfGrids (gridsIn ps)) (now (st .args .flips))) (sym (front .is));
       }
 
   at-end : lts.Need-returns-3 (front-reads.Asked, front-reads.Learnt, grids-reads.Asked, grids-reads.Learnt, fields-below t, fields.Post) (fields-at t) fields.Post
@@ -215,16 +199,16 @@ module _ (t : ℕ) where
       record {
         numbers-after = λ left at ps w.
             let only = only-end at s ps left (front .result) (front .ensures .answer) (c .match .keys3) bytes w in
-            laid-none (now (st .args .numbers)) ∙ ap (λ ps. laid (map data-in (gridsIn ps)) (now (st .args .numbers))) (sym (only .0));
+            laid-none (now (st .args .numbers)) ∙ ap (λ ps. laid (dataOfGrids (gridsIn ps)) (now (st .args .numbers))) (sym (only .0));
         flips-after = λ left at ps w.
             let only = only-end at s ps left (front .result) (front .ensures .answer) (c .match .keys3) bytes w in
-            laid-none (now (st .args .flips)) ∙ ap (λ ps. laid (map flips-in (gridsIn ps)) (now (st .args .flips))) (sym (only .0));
+            laid-none (now (st .args .flips)) ∙ ap (λ ps. laid (flipsOfGrids (gridsIn ps)) (now (st .args .flips))) (sym (only .0));
       }
 
 pub +fields-spec : {M : Type 1} → statement M
 +fields-spec =
     close μ-fields λ t. lts.spec (front-reads.Asked, front-reads.Learnt, grids-reads.Asked, grids-reads.Learnt, fields-below t, fields.Post) (fields-at t) fields.Post
-    (λ c κs. search needs) (λ c. search needs) (add-end t) (λ c. search needs) (λ c. search needs) (grids-end t) (grids-fit t)
+    (λ c κs. search needs) (λ c. search needs) (add-end t) (λ c. search needs) (λ c. search needs) (grids-end t) (λ c κs. search needs)
     (behind-grids t) (from-grids t) (λ c. search needs) (λ c. search needs) (numbers-left t) (from-numbers t) (λ c. search needs)
     (flips-left t) (from-flips t) (λ c. search needs) (grids-walk t) (λ c. search needs) (behind-block t) (from-block t)
     (λ c. search needs) (block-walk t) (λ c. search needs) (λ c. search needs) (with-grids t) (λ c. search needs) (λ c. search needs)

@@ -1,4 +1,4 @@
--- `card_read::show` meets its contract: in each case of the verdict. Assumes nothing.
+-- `value_read::show` meets its contract: in each case of the verdict. Assumes nothing.
 use mathlib.Core.Path.{_≡_, refl, sym, ap, _∙_}
 use mathlib.Core.Logic.{⊎-elim}
 use mathlib.Core.List.{[], _∷_}
@@ -14,10 +14,10 @@ use Rattle.grid.specs.declared.Verdict.{Verdict}
 use Rattle.grid.specs.declared.Verdict.the-variants.{Clean, Mended, Lost, Tie}
 use Rattle.grid.proofs.Verdict.{the-type}
 use Rattle.grid_code.proofs.Promises.{promised}
-use Rattle.card_read.specs.Answer.{dataShown, flipsShown}
+use Rattle.value_read.specs.Shown.{dataShown, flipsShown}
 use borrow.Author.Needs.{needs}
-use Rattle.card_read.proofs.show.Statement.{statement}
-use Rattle.card_read.proofs.show.Tie as tie
+use Rattle.value_read.proofs.show.Statement.{statement}
+use Rattle.value_read.proofs.show.Tie as tie
 
 unread : (v : Verdict) → OneOf (2 ∷ 3 ∷ []) (tagOf the-type v) → (dataShown (means v) ≡ 0) × (flipsShown (means v) ≡ 255)
 unread (Clean d) k = absurd (⊎-elim (λ e. omega (arith, e)) (λ e. omega (arith, e)) k)
