@@ -1,100 +1,13 @@
-/* The library's block beside the second program's. `block` runs all tests, `block SEED` runs them on other blocks. `block SIDE BIT`, where
-   SIDE is `library` or `second program`, runs one with that bit of one answer of that side flipped (0 to 63 in the first four words, 64 to
-   95 in the number returned): it has to fail. A difference is reported at the number of the block in its test, or, for one and two flips,
-   at 1000 times the place of the one and the place of the other: place p is bit p mod 16 of word p/16. */
+/* The library's block beside the second program's. `block` is called as `flip.h` says; the bits are 0 to 63 in the first four words of a
+   block, 64 to 95 in the number returned. A difference is reported at the number of the block in its test, or, for one and two flips, at
+   1000 times the place of the one and the place of the other: place p is bit p mod 16 of word p/16. */
+#include "block_sides.h"
 #include "draw.h"
 #include "flip.h"
-#include "forms.h"
 #include "library.h"
-#include "plain.h"
+#include "second_block.h"
 
-enum { DATA = 32, WORDS = 38, BITS = 16, PLACES = 608, DATA_PLACES = 512, MANY = 20000, SOME = 5000 };
-
-/* A slice stands in the middle of a room, the rest of which nothing may touch. */
-enum { BEFORE = 3, LONGEST = 80, ROOM = BEFORE + LONGEST + BEFORE };
-
-struct state {
-    uint16_t room[ROOM];
-    uint32_t returned;
-};
-
-static void draw_words(struct state *s)
-{
-    for (unsigned k = 0; k < ROOM; k++)
-        s->room[k] = (uint16_t)draw();
-    s->returned = 0;
-}
-
-static void draw_block(struct state *s)
-{
-    draw_words(s);
-    second_block(s->room + BEFORE, s->room + BEFORE);
-}
-
-static void flip(struct state *s, unsigned place)
-{
-    s->room[BEFORE + place / BITS] ^= (uint16_t)(1 << place % BITS);
-}
-
-static void compare_states(struct test *t, const struct state *a, const struct state *b, uint64_t at)
-{
-    compare(t, a->returned, b->returned, at);
-    for (unsigned k = 0; k < ROOM; k++)
-        compare(t, a->room[k], b->room[k], at);
-}
-
-/* the first answer with its flips: those in its first four words, and those in the number returned */
-static struct state flipped(struct state s, uint64_t flips[2])
-{
-    for (unsigned k = 0; k < 4; k++)
-        s.room[BEFORE + k] ^= (uint16_t)(flips[0] >> BITS * k);
-    s.returned ^= (uint32_t)flips[1];
-    flips[0] = flips[1] = 0;
-    return s;
-}
-
-static void compare_answers(struct test *t, struct state library, struct state second, uint64_t at)
-{
-    library = flipped(library, flip_library);
-    second = flipped(second, flip_second);
-    compare_states(t, &library, &second, at);
-}
-
-static struct test again = {.name = "block scrub, a second time"};
-static struct test plain_encoded = {.name = "the plain version's block encode, the same data"};
-static struct test plain_scrubbed = {.name = "the plain version's block scrub, the same blocks"};
-
-/* all three encode the same data, which stays as it is */
-static void encode(struct test *t, const struct state *data, uint64_t n, uint64_t m, uint64_t at)
-{
-    struct state values = *data, library, second, plainly;
-    draw_words(&library);
-    second = plainly = library;
-    library.returned = block_encode(values.room + BEFORE, n, library.room + BEFORE, m);
-    second.returned = second_block_encode(data->room + BEFORE, n, second.room + BEFORE, m);
-    plainly.returned = plain_block_encode(data->room + BEFORE, n, plainly.room + BEFORE, m);
-    compare_answers(t, library, second, at);
-    compare_states(t, &values, data, at);
-    compare_states(&plain_encoded, &plainly, &second, at);
-}
-
-/* all three scrub the same slice; what the library made of it is left in its state */
-static void scrub(struct test *t, struct state *library, uint64_t n, uint64_t at)
-{
-    struct state second = *library, plainly = *library;
-    library->returned = block_scrub(library->room + BEFORE, n);
-    second.returned = scrub_number(second_block_scrub(second.room + BEFORE, n));
-    plainly.returned = plain_block_scrub(plainly.room + BEFORE, n);
-    compare_answers(t, *library, second, at);
-    compare_states(&plain_scrubbed, &plainly, &second, at);
-
-    /* a second scrub finds clean what was clean or mended, refuses what was refused, and alters nothing */
-    struct state twice = *library, expected = *library;
-    twice.returned = block_scrub(twice.room + BEFORE, n);
-    if (expected.returned < 1 << 8)
-        expected.returned = 0;
-    compare_states(&again, &twice, &expected, at);
-}
+enum { MANY = 20000, SOME = 5000 };
 
 /* no two codewords are nearer than 5, since the second program has no two patterns that are alike; how near some are is counted here */
 static void constants(void)
@@ -337,15 +250,8 @@ static void lengths(void)
     report_drawn(encodings);
 }
 
-int main(int n, char **words)
+static void all(void)
 {
-    if (n == 3) {
-        if (!read_flip(words))
-            return 1;
-        every_flip();
-        return 0;
-    }
-    read_seed(n, words);
     constants();
     patterns();
     worked_numbers();
@@ -359,5 +265,9 @@ int main(int n, char **words)
     report_drawn(again);
     report_drawn(plain_encoded);
     report_drawn(plain_scrubbed);
-    return 0;
+}
+
+int main(int n, char **words)
+{
+    return run_tests(n, words, every_flip, all);
 }

@@ -1,9 +1,9 @@
-/* The library's check, scrub and read-back of a card image beside the second program's. `card` runs all tests, `card SEED` runs them on
-   other images. `card SIDE BIT`, where SIDE is `library` or `second program`, runs one with that bit of one scrub of that side flipped (0
-   to 63 in the number returned, 64 to 127 in the first eight bytes of the image): it has to fail. `card images DIR` and `card images DIR
-   SEED` compare nothing: they write the images to files of DIR, which is there, and to DIR/expected the name of each with what the bench
-   has to print. A difference is reported at the number of the image, which is that of its file. */
+/* The library's check, scrub and read-back of a card image beside the second program's. `card` is called as `flip.h` says; the bits are 0
+   to 63 in the number that a scrub returns, 64 to 127 in the first eight bytes of the image. `card images DIR` and `card images DIR SEED`
+   compare nothing: they write the images to files of DIR, which is there, and to DIR/expected the name of each with what the bench has to
+   print. A difference is reported at the number of the image, which is that of its file. */
 #include "flip.h"
+#include "forms.h"
 #include "images.h"
 #include "library.h"
 #include "plain.h"
@@ -23,12 +23,6 @@ static struct test plain = {.name = "the plain version's image scrub, the same i
 /* how many images came before */
 static uint64_t number;
 
-/* document 01's number, and below it the place of the break or what the call tells */
-static uint64_t returned(struct image_answer a, uint64_t told)
-{
-    return (uint64_t)a.number << 32 | (a.number == 0 ? told : a.place);
-}
-
 /* a room with the image in it, and with these lengths of the other slices */
 static void lend(struct state *s, const struct image *im, struct lengths lengths)
 {
@@ -44,7 +38,7 @@ static void check(struct test *t, const struct state *lent)
     copy_state(&second, lent);
     library.returned = image_check(image_in(&library), library.lengths.image);
     struct image_answer a = second_image_check(image_in(&second), second.lengths.image);
-    second.returned = returned(a, a.grids | a.blocks << 16);
+    second.returned = image_number(a, a.grids | a.blocks << 16);
     compare_states(t, &library, &second, number);
 }
 
@@ -58,7 +52,7 @@ static void read_back(struct test *t, const struct state *lent)
                                   n.flips);
     struct image_answer a = second_image_read(image_in(&second), n.image, title_in(&second), n.title, data_in(&second), n.data,
                                               flips_in(&second), n.flips);
-    second.returned = returned(a, a.title | a.grids << 16);
+    second.returned = image_number(a, a.title | a.grids << 16);
     compare_states(t, &library, &second, number);
 }
 
@@ -84,7 +78,7 @@ static void scrub(struct test *t, const struct state *lent)
     copy_state(&second, lent);
     copy_state(&plainly, lent);
     library.returned = image_scrub(image_in(&library), library.lengths.image, tallies_in(&library), TALLIES);
-    second.returned = returned(second_image_scrub(image_in(&second), second.lengths.image, tallies_in(&second)), 0);
+    second.returned = image_number(second_image_scrub(image_in(&second), second.lengths.image, tallies_in(&second)), 0);
     plainly.returned = plain_image_scrub(image_in(&plainly), plainly.lengths.image, tallies_in(&plainly));
     compare_states(&plain, &plainly, &second, number);
     scrub_again(&library);
@@ -209,20 +203,8 @@ static void use_set(use *use, struct set set)
     report_drawn(t);
 }
 
-int main(int n, char **words)
+static void all(void)
 {
-    if (n >= 3 && strcmp(words[1], "images") == 0) {
-        read_seed(n - 2, words + 2);
-        folder = words[2];
-        return write_images();
-    }
-    if (n == 3) {
-        if (!read_flip(words))
-            return 1;
-        worked_image();
-        return 0;
-    }
-    read_seed(n, words);
     for (unsigned k = 0; k < SETS; k++)
         use_set(compare_image, sets[k]);
     use_set(compare_image, (struct set){"images, every byte of a small one set to every value", every_byte});
@@ -231,5 +213,14 @@ int main(int n, char **words)
     worked_image();
     report_drawn(again);
     report_drawn(plain);
-    return 0;
+}
+
+int main(int n, char **words)
+{
+    if (n >= 3 && strcmp(words[1], "images") == 0) {
+        read_seed(n - 2, words + 2);
+        folder = words[2];
+        return write_images();
+    }
+    return run_tests(n, words, worked_image, all);
 }

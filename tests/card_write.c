@@ -1,8 +1,8 @@
-/* The library's writer of a card image beside the second program's, and what the other calls make of a written image. `card_write` runs
-   all tests, `card_write SEED` runs them on other titles and numbers. `card_write SIDE BIT`, where SIDE is `library` or `second program`,
-   runs one with that bit of one answer of that side flipped (0 to 63 in the number returned, 64 to 127 in the first eight bytes of the
-   image): it has to fail. A difference is reported at the number of the call in its test. */
+/* The library's writer of a card image beside the second program's, and what the other calls make of a written image. `card_write` is
+   called as `flip.h` says; the bits are 0 to 63 in the number returned, 64 to 127 in the first eight bytes of the image. A difference is
+   reported at the number of the comparison in its test. */
 #include "flip.h"
+#include "forms.h"
 #include "library.h"
 #include "room.h"
 #include "second_card.h"
@@ -29,7 +29,7 @@ static void try_write(struct test *t, const struct state *lent, uint64_t expecte
     copy_state(&second, lent);
     library.returned = image_write(title_in(&library), n.title, data_in(&library), n.data, image_in(&library), n.image);
     struct image_answer a = second_image_write(title_in(&second), n.title, data_in(&second), n.data, image_in(&second), n.image);
-    second.returned = (uint64_t)a.number << 32 | (a.number == 0 ? a.written : a.place);
+    second.returned = image_number(a, a.written);
     compare(t, second.returned, expected, t->compared);
     flip(&library, flip_library);
     flip(&second, flip_second);
@@ -155,18 +155,15 @@ static void written(void)
     report_drawn(damaged);
 }
 
-int main(int n, char **words)
+static void all(void)
 {
-    if (n == 3) {
-        if (!read_flip(words))
-            return 1;
-        title_bytes();
-        return 0;
-    }
-    read_seed(n, words);
     lengths();
     title_bytes();
     order();
     written();
-    return 0;
+}
+
+int main(int n, char **words)
+{
+    return run_tests(n, words, title_bytes, all);
 }

@@ -1,7 +1,5 @@
-/* The library's decoder beside the second program's.
-   `decode` runs all tests, `decode SEED` runs them on other words. `decode SIDE BIT`, where SIDE is `library` or `second program`, runs
-   one with that bit of one answer of that side flipped (0 to 63 in the verdict, 64 to 127 in the repaired grid): it has to fail.
-   Answers that differ are reported at the word that was read. */
+/* The library's decoder beside the second program's. `decode` is called as `flip.h` says; the bits are 0 to 63 in a verdict, 64 to 127 in
+   the repaired grid. Answers that differ are reported at the word that was read. */
 #include "draw.h"
 #include "flip.h"
 #include "forms.h"
@@ -196,15 +194,8 @@ static void lengths(void)
     report(&t);
 }
 
-int main(int n, char **words)
+static void all(void)
 {
-    if (n == 3) {
-        if (!read_flip(words))
-            return 1;
-        half_way();
-        return 0;
-    }
-    read_seed(n, words);
     counts();
     worked_words();
     every_codeword();
@@ -214,5 +205,9 @@ int main(int n, char **words)
     half_way();
     lengths();
     report_drawn(plain);
-    return 0;
+}
+
+int main(int n, char **words)
+{
+    return run_tests(n, words, half_way, all);
 }

@@ -1,6 +1,5 @@
-/* The library's grid beside the second program's.
-   `grid` runs all tests. `grid SIDE BIT`, where SIDE is `library` or `second program`, runs the first one with that bit (0 to 63)
-   of one answer of that side flipped: it has to fail. */
+/* The library's grid beside the second program's. `grid` is called as `flip.h` says; the bits are 0 to 63 in a grid, and a seed alters
+   nothing, since nothing is drawn. */
 #include "draw.h"
 #include "flip.h"
 #include "library.h"
@@ -84,18 +83,16 @@ static void constants(void)
     report(&t);
 }
 
-int main(int n, char **words)
+static void all(void)
 {
-    if (n == 3) {
-        if (!read_flip(words))
-            return 1;
-        every_grid();
-        return 0;
-    }
     every_grid();
     plain_version();
     worked_numbers();
     rows();
     constants();
-    return 0;
+}
+
+int main(int n, char **words)
+{
+    return run_tests(n, words, every_grid, all);
 }

@@ -1,4 +1,5 @@
 /* Images that are drawn, sound ones and ones that break rules of document 01, each with what is to be found there. */
+#pragma once
 #include "draw.h"
 #include "second.h"
 #include "second_block.h"

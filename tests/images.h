@@ -1,4 +1,5 @@
 /* The images on which the calls and the bench are tried, as sets: on each image of a set, something is done. */
+#pragma once
 #include "image.h"
 
 enum { MANY = 1000, SOME = 150, FEW = 10 };

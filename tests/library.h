@@ -1,4 +1,5 @@
 /* What the archives of the crates `harness`, `harness_page` and `harness_card` export. A slice is a pointer and then a length. */
+#pragma once
 #include <stdint.h>
 
 uint64_t grid_encode(uint16_t value);

@@ -1,6 +1,5 @@
-/* The library's page scrub beside the second program's. `page` runs all tests, `page SEED` runs them on other pages. `page SIDE BIT`, where
-   SIDE is `library` or `second program`, runs them with that bit of one place of that side flipped (0 to 63 in a grid of the page, 64 to 95
-   in a number of the tally): it has to fail. A difference is reported at the number of the page. */
+/* The library's page scrub beside the second program's. `page` is called as `flip.h` says; the bits are 0 to 63 in a grid of a page, 64 to
+   95 in a number of its tally. A difference is reported at the number of the page. */
 #include "draw.h"
 #include "flip.h"
 #include "library.h"
@@ -126,16 +125,13 @@ static void tallies(void)
     report_drawn(t);
 }
 
-int main(int n, char **words)
+static void all(void)
 {
-    if (n == 3) {
-        if (!read_flip(words))
-            return 1;
-        pages();
-        return 0;
-    }
-    read_seed(n, words);
     pages();
     tallies();
-    return 0;
+}
+
+int main(int n, char **words)
+{
+    return run_tests(n, words, pages, all);
 }

@@ -1,3 +1,4 @@
+/* The plain version's grid and page: where a word is not the codeword of its data, its rows are mended, some set aside, in two trials. */
 #include "plain.h"
 
 enum { RADIUS = 7, LONGEST_PAGE = 512, LENGTH_NOT_ALLOWED = 3, LOST = 1 << 24 };

@@ -1,5 +1,6 @@
 /* The grid, the block and the scrub of an image in C for speed, with tables of at most 16 entries and in the forms of `library.h`: the C
    whose cost is counted beside the library's. The second program checks it. */
+#pragma once
 #include <stdint.h>
 
 uint64_t plain_grid(uint16_t data);

@@ -1,3 +1,4 @@
+/* The plain version's block: its checks are two numbers, and data places that may be flipped are guessed from them. */
 #include "plain.h"
 
 enum { ROWS = 32, COLUMNS = 16, WORDS = 38, LENGTH_NOT_ALLOWED = 3, REFUSED = LENGTH_NOT_ALLOWED << 8, LOST = 2 << 8 };

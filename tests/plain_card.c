@@ -1,3 +1,4 @@
+/* The plain version's scrub of an image: all of it is checked before anything is altered. */
 #include "plain.h"
 
 enum { TITLE = 0x01, GRIDS = 0x02, BLOCK = 0x03, END = 0x7F };

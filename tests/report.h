@@ -1,5 +1,6 @@
 /* How a test program reports: a line for each test, `ok NAME: N compared` or `FAILED NAME: ..`. A test that compared nothing has
    failed. */
+#pragma once
 #include <stdint.h>
 
 int printf(const char *, ...);

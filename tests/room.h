@@ -1,4 +1,5 @@
 /* The slices that are lent to a call on an image stand one behind the other in one room. Around each are bytes that nothing may touch. */
+#pragma once
 #include "draw.h"
 
 void *memcpy(void *, const void *, unsigned long);

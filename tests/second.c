@@ -1,3 +1,4 @@
+/* The second program's grid and page. The sentences of document 01 stand above what they say. */
 #include "second.h"
 
 void *memchr(const void *, int, unsigned long);

@@ -1,4 +1,5 @@
 /* The second program: document 01 once more, in C, written from the document alone and from no line of the library. */
+#pragma once
 #include <stdint.h>
 
 /* The grid of a data value, place by place. */

@@ -1,3 +1,4 @@
+/* The second program's block. The sentences of document 01 stand above what they say. */
 #include "second_block.h"
 
 int memcmp(const void *, const void *, unsigned long);

@@ -1,4 +1,5 @@
 /* The second program's block: document 01 once more, in C, written from the document alone and from no line of the library. */
+#pragma once
 #include <stdint.h>
 
 /* The block of 32 data words, place by place. The data words may be the block's own. */

@@ -1,3 +1,4 @@
+/* The second program's card image, and what the bench prints of it. The sentences of document 01 stand above what they say. */
 #include "second_card.h"
 #include "second.h"
 #include "second_block.h"

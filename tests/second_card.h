@@ -1,4 +1,5 @@
 /* The second program's card image: document 01 once more, in C, written from the document alone and from no line of the library. */
+#pragma once
 #include <stdint.h>
 
 /* What a call on an image returns: document 01's number (0 where nothing is refused, 3, 4 or 6) and the place of the break (0 where

@@ -1,5 +1,6 @@
-/* Words, bytes and lists as text, for the calls by hand: hex and decimal, and `-` where there is nothing. The readers return 0 if the text
-   is not what they read. What they make stands until `take_back`. */
+/* Words, bytes and lists as text: hex and decimal, and `-` where there is nothing. The readers return 0 if the text is not what they read.
+   What they make stands until `take_back`. */
+#pragma once
 #include <stdint.h>
 
 int printf(const char *, ...);

@@ -1,0 +1,96 @@
+/* The calls on a block on all sides: the library, the second program and the plain version are lent the same, and what they return and
+   leave is compared. */
+#pragma once
+#include "draw.h"
+#include "flip.h"
+#include "forms.h"
+#include "library.h"
+#include "plain.h"
+
+enum { DATA = 32, WORDS = 38, BITS = 16, PLACES = 608, DATA_PLACES = 512 };
+
+/* A slice stands in the middle of a room, the rest of which nothing may touch. */
+enum { BEFORE = 3, LONGEST = 80, ROOM = BEFORE + LONGEST + BEFORE };
+
+struct state {
+    uint16_t room[ROOM];
+    uint32_t returned;
+};
+
+static inline void draw_words(struct state *s)
+{
+    for (unsigned k = 0; k < ROOM; k++)
+        s->room[k] = (uint16_t)draw();
+    s->returned = 0;
+}
+
+static inline void draw_block(struct state *s)
+{
+    draw_words(s);
+    second_block(s->room + BEFORE, s->room + BEFORE);
+}
+
+static inline void flip(struct state *s, unsigned place)
+{
+    s->room[BEFORE + place / BITS] ^= (uint16_t)(1 << place % BITS);
+}
+
+static inline void compare_states(struct test *t, const struct state *a, const struct state *b, uint64_t at)
+{
+    compare(t, a->returned, b->returned, at);
+    for (unsigned k = 0; k < ROOM; k++)
+        compare(t, a->room[k], b->room[k], at);
+}
+
+/* the first answer with its flips: those in its first four words, and those in the number returned */
+static inline struct state flipped(struct state s, uint64_t flips[2])
+{
+    for (unsigned k = 0; k < 4; k++)
+        s.room[BEFORE + k] ^= (uint16_t)(flips[0] >> BITS * k);
+    s.returned ^= (uint32_t)flips[1];
+    flips[0] = flips[1] = 0;
+    return s;
+}
+
+static inline void compare_answers(struct test *t, struct state library, struct state second, uint64_t at)
+{
+    library = flipped(library, flip_library);
+    second = flipped(second, flip_second);
+    compare_states(t, &library, &second, at);
+}
+
+static struct test again = {.name = "block scrub, a second time"};
+static struct test plain_encoded = {.name = "the plain version's block encode, the same data"};
+static struct test plain_scrubbed = {.name = "the plain version's block scrub, the same blocks"};
+
+/* all three encode the same data, which stays as it is */
+static inline void encode(struct test *t, const struct state *data, uint64_t n, uint64_t m, uint64_t at)
+{
+    struct state values = *data, library, second, plainly;
+    draw_words(&library);
+    second = plainly = library;
+    library.returned = block_encode(values.room + BEFORE, n, library.room + BEFORE, m);
+    second.returned = second_block_encode(data->room + BEFORE, n, second.room + BEFORE, m);
+    plainly.returned = plain_block_encode(data->room + BEFORE, n, plainly.room + BEFORE, m);
+    compare_answers(t, library, second, at);
+    compare_states(t, &values, data, at);
+    compare_states(&plain_encoded, &plainly, &second, at);
+}
+
+/* all three scrub the same slice; what the library made of it is left in its state */
+static inline void scrub(struct test *t, struct state *library, uint64_t n, uint64_t at)
+{
+    struct state second = *library, plainly = *library;
+    library->returned = block_scrub(library->room + BEFORE, n);
+    second.returned = scrub_number(second_block_scrub(second.room + BEFORE, n));
+    plainly.returned = plain_block_scrub(plainly.room + BEFORE, n);
+    compare_answers(t, *library, second, at);
+    compare_states(&plain_scrubbed, &plainly, &second, at);
+
+    /* a second scrub finds clean what was clean or mended, refuses what was refused, and alters nothing */
+    struct state twice = *library, expected = *library;
+    twice.returned = block_scrub(twice.room + BEFORE, n);
+    if (expected.returned < 1 << 8)
+        expected.returned = 0;
+    compare_states(&again, &twice, &expected, at);
+}
