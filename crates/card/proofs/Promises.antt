@@ -40,7 +40,7 @@ use Rattle.card_read.specs.Calls.{roomFor, readAs, Read}
 use Rattle.card.specs.Promises.{Again, ScrubPromises, Switched, WritePromises, ReadPromises, OneOutcome}
 use Rattle.card_scrub.proofs.Scrubs.{block-laws}
 use Rattle.card_write.proofs.Writes.{is-long, is-bad, is-short, is-done}
-use Rattle.values.proofs.Judging.{judged-long, judged-as}
+use Rattle.image.proofs.Judged.{judged-long, judged-as}
 use Rattle.card.proofs.Again.{same-frame, second, still-proper, same-length, twice}
 use Rattle.card.proofs.Switches.{put-right, none-switched, no-flips, length-on, lengths, few, found-on, read-on}
 

@@ -29,7 +29,7 @@ use Rattle.value_read.specs.Shown.{dataShown, flipsShown}
 use Rattle.card_write.specs.Calls.{cardOn, lengthsAllowed}
 use Rattle.card_read.specs.Calls.{roomFor, readAs, Read}
 use Rattle.card.specs.Promises.{Switched}
-use Rattle.values.proofs.Judging.{judged-as}
+use Rattle.image.proofs.Judged.{judged-as}
 use Rattle.words.proofs.Bytes.{below-map}
 use Rattle.card.proofs.Again.{grids-long, card-long}
 

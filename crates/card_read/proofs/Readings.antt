@@ -18,7 +18,8 @@ use Rattle.card_read.specs.declared.ReadAnswer.the-variants.{Done, Lengt
 use Rattle.value_read.specs.Shown.{dataOfGrids, flipsOfGrids}
 use Rattle.card_read.specs.Calls.{roomFor, readAs, Read}
 use Rattle.values.proofs.Walks.{Front}
-use Rattle.values.proofs.Judging.{Whole, judged-long, judged-as}
+use Rattle.image.proofs.Judged.{judged-long, judged-as}
+use Rattle.values.proofs.Judging.{Whole}
 
 module _ (s : List ℕ) (ps : List Part) (n left next : ℕ) (f : fieldOf s ≡ Grids n)
     (front : Front ps (gridsAt n (value s)) left next (drop (3 + n) s)) where

@@ -1,3 +1,4 @@
 pub mod Walking
 pub mod Shape
 pub mod Promises
+pub mod Judged

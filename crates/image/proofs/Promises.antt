@@ -2,14 +2,12 @@
 -- title, and so is the image of a card or has a break, and what is found tells which. Assumes nothing.
 use mathlib.Core.Path.{_≡_, refl, sym, ap, _∙_, subst}
 use mathlib.Core.Logic.{_≢_, _⊎_, inl, inr}
-use mathlib.Core.Bool.{Bool}
 use mathlib.Core.List.{List, [], _∷_, _++_, append-assoc, append-nil}
 use Prim.Native.Nat.{ℕ, _+_, _-_, _≤_, _<_}
 use native.Mathlib.Omega.{arith}
 use lib.ListN.{length, take, drop, length-append}
 use lib.Seq.{drop-append-seam}
 use borrow.Author.Tests.{le-leb, lt-leb}
-use Rattle.words.specs.Word.{choose}
 use Rattle.words.specs.Fields.{Below}
 use Rattle.words.proofs.Bytes.{below-drop}
 use Rattle.fields.specs.declared.Field.{Field}
@@ -21,6 +19,7 @@ use Rattle.image.specs.declared.Outcome.the-variants.{Length, Broken}
 use Rattle.image.specs.Card.{Part, Card, Found, sound, broken, before, walk, named, titled, cardOf, head, frontOf, imageOf}
 use Rattle.image.specs.Calls.{byFound, Checked, counts, numberOf, placeOf, titleIn}
 use Rattle.image.specs.Promises.{Proper, Break, no-title, fails, repeated, seventeenth, behind-end, ImagePromises, OneOutcome}
+use Rattle.image.proofs.Judged.{judged-long, judged-as}
 use Rattle.image.proofs.Walking.{full-grids, full-block, walk-end, walk-behind, walk-title, walk-fails}
 use Rattle.image.proofs.Shape.{stands-front, beforeAll, card-over, split, DataAt, Fronted, title-back}
 
@@ -168,16 +167,12 @@ no-end c h = ap cardOf (sym (append-nil (frontOf c))) ∙ breaks c h [] (walk-fa
 
 -- ---- the calls
 
--- what a check says of an image that is not too long
-abbrev told : Found Card → Outcome
-told = byFound Broken (λ (c : Card). counts (c .parts))
-
 module _ (s : List ℕ) (r : Outcome) (k : Checked s r) where
-  short : length s ≤ 32768 → {x : Found Card} → cardOf s ≡ x → r ≡ told x
-  short l e = k .answer ∙ ap (λ (b : Bool). choose b (told (cardOf s)) Length) (le-leb (length s) 32768 l) ∙ ap told e
+  short : length s ≤ 32768 → {x : Found Card} → cardOf s ≡ x → r ≡ byFound Broken (λ c. counts (c .parts)) x
+  short l e = k .answer ∙ judged-as s Length Broken (λ c. counts (c .parts)) (le-leb (length s) 32768 l) e
 
   long : 32768 < length s → r ≡ Length
-  long l = k .answer ∙ ap (λ (b : Bool). choose b (told (cardOf s)) Length) (lt-leb (length s) 32768 l)
+  long l = k .answer ∙ judged-long s Length Broken (λ c. counts (c .parts)) (lt-leb (length s) 32768 l)
 
 title-given : (s : List ℕ) (c : Card) → cardOf s ≡ sound c → titleIn s (fieldOf s) ≡ c .title
 unfolding cardOf

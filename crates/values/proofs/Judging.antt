@@ -2,7 +2,7 @@
 use mathlib.Core.Path.{_≡_, refl, sym, ap, _∙_, subst}
 use mathlib.Core.Bool.{Bool, true, false}
 use mathlib.Core.List.{List}
-use Prim.Native.Nat.{ℕ, _+_, _-_, _≤_}
+use Prim.Native.Nat.{ℕ, _+_, _≤_}
 use native.Mathlib.Omega.{arith}
 use lib.Dec.{leb}
 use lib.ListN.{length, drop, length-drop}
@@ -14,7 +14,7 @@ use Rattle.fields.proofs.Fields.{Stands, known, length-value}
 use Rattle.image.specs.declared.Outcome.{Outcome}
 use Rattle.image.specs.declared.Outcome.the-variants.{Sound, Length, Broken}
 use Rattle.image.specs.Card.{Part, Card, gridsIn, Found, sound, broken, walk, named, titled, cardOf}
-use Rattle.image.specs.Calls.{byFound, judged, counts, Checked, numberOf, placeOf}
+use Rattle.image.specs.Calls.{byFound, counts, Checked, numberOf, placeOf}
 use Rattle.image.proofs.Walking.{card-titled}
 use Rattle.values.specs.Steps.{Walks}
 
@@ -59,13 +59,6 @@ module _ (s : List ℕ) where
       go true (sound c) t x e = record { card = c; within = t; is = x; grids = ap grids-of e }
       go true (broken k) t x e = absurd (omega (arith, ap numberOf e))
       go false x t y e = absurd (omega (arith, ap numberOf e))
-
-  module _ {A : Type 0} (long : A) (breaks : ℕ → A) (fine : Card → A) where
-    pub judged-long : leb (length s) 32768 ≡ false → judged s long breaks fine ≡ long
-    judged-long e = ap (λ (b : Bool). choose b (byFound breaks fine (cardOf s)) long) e
-
-    pub judged-as : leb (length s) 32768 ≡ true → {x : Found Card} → cardOf s ≡ x → judged s long breaks fine ≡ byFound breaks fine x
-    judged-as e f = ap (λ (b : Bool). choose b (byFound breaks fine (cardOf s)) long) e ∙ ap (byFound breaks fine) f
 
 -- ---- a sound image: its title, and the fields behind it
 

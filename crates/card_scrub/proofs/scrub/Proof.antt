@@ -13,7 +13,8 @@ use Rattle.image.proofs.Promises.{promised}
 use Rattle.card_scrub.specs.declared.ScrubAnswer.the-variants.{Done, Length, Broken}
 use Rattle.card_scrub.specs.Calls.{scrubbedCard, talliesOf}
 use Rattle.values.specs.Steps.{Walks}
-use Rattle.values.proofs.Judging.{too-long, broken-at, Whole, whole, judged-long, judged-as, Inside, inside, stands, title-long, walks}
+use Rattle.image.proofs.Judged.{judged-long, judged-as}
+use Rattle.values.proofs.Judging.{too-long, broken-at, Whole, whole, Inside, inside, stands, title-long, walks}
 use Rattle.card_scrub.proofs.Parts.{scrubbed-image}
 use borrow.Author.Needs.{needs}
 use Rattle.card_scrub.proofs.scrub.Statement.{statement}
