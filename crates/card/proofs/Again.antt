@@ -22,7 +22,7 @@ use Rattle.image.specs.Card.{Part, grids, block, Card, gridsIn, blocksIn, head,
 use Rattle.image.specs.Promises.{ProperPart, AllProper, Proper}
 use Rattle.card_scrub.specs.Calls.{scrubbedPart, scrubbedCard, talliesOf}
 use Rattle.card.specs.Promises.{SameFrame, Again}
-use Rattle.card_scrub.proofs.Scrubs.{block-laws}
+use Rattle.card_scrub.proofs.Parts.{block-laws}
 
 -- ---- its grids and its blocks
 

@@ -38,7 +38,7 @@ use Rattle.card_scrub.specs.Calls.{scrubbedPart, scrubbedCard, talliesOf, Scrub
 use Rattle.card_write.specs.Calls.{cardOn, cardWith, sizeWritten, lengthsAllowed, Wrote}
 use Rattle.card_read.specs.Calls.{roomFor, readAs, Read}
 use Rattle.card.specs.Promises.{Again, ScrubPromises, Switched, WritePromises, ReadPromises, OneOutcome}
-use Rattle.card_scrub.proofs.Scrubs.{block-laws}
+use Rattle.card_scrub.proofs.Parts.{block-laws}
 use Rattle.card_write.proofs.Writes.{is-long, is-bad, is-short, is-done}
 use Rattle.image.proofs.Judged.{judged-long, judged-as}
 use Rattle.card.proofs.Again.{same-frame, second, still-proper, same-length, twice}

@@ -2,9 +2,9 @@
 // is proved of the three together.
 pub use card_read::ReadAnswer;
 pub use card_read::read;
-pub use card_scrub::Blocks;
 pub use card_scrub::ScrubAnswer;
 pub use card_scrub::Tallies;
 pub use card_scrub::scrub;
 pub use card_write::WriteAnswer;
 pub use card_write::write;
+pub use value_scrub::Blocks;

@@ -10,25 +10,28 @@ use Rattle.words.specs.Bytes.{wordsIn, bytesOf}
 use Rattle.words.proofs.Lists.{part-behind}
 use Rattle.words.proofs.Bytes.{length-words}
 use Rattle.codes.specs.Verdict.{scrubbed, flipsOf}
-use Rattle.codes.specs.Tally.{isClean, isMended, isLost}
-use Rattle.codes.proofs.Tally.{sum-append}
+use Rattle.codes.specs.Tally.{isClean, isMended, isLost, TallyPromises}
+use Rattle.codes.proofs.Tally.{sum-append, tallies}
 use Rattle.grid_code.specs.Code.{gridCode}
 use Rattle.block_code.specs.Code.{blockCode}
+use Rattle.block_code.proofs.Promises.{promised}
 use Rattle.page.specs.declared.Tally.{Tally}
 use Rattle.page.specs.Calls.{tallyOf}
 use Rattle.fields.specs.declared.Field.the-variants.{Grids, Block}
 use Rattle.fields.specs.Fields.{value, fieldOf}
 use Rattle.fields.proofs.Fields.{Stands, known, length-value, grids-size}
-use Rattle.image.specs.Card.{Card, grids, gridsIn, blocksIn, head, partBytes, partsBytes, frontOf, imageOf}
+use Rattle.image.specs.Card.{Card, gridsIn, blocksIn, head, partBytes, partsBytes, frontOf, imageOf}
 use Rattle.image.proofs.Shape.{split}
-use Rattle.card_scrub.specs.declared.Blocks.{Blocks}
-use Rattle.card_scrub.specs.declared.Tallies.{Tallies}
-use Rattle.card_scrub.specs.Calls.{scrubbedPart, scrubbedCard, blockTally, talliesOf}
-use Rattle.card_scrub.specs.Steps.{bothGrids, withBlocks, RoomyGrids, RoomyBlocks, ScrubbedGrids, ScrubbedBlock, ScrubbedFields}
 use Rattle.values.specs.Steps.{Walks}
-use Rattle.card_scrub.proofs.Scrubs.{tally-two, grids-few, blocks-few}
 use Rattle.values.proofs.Judging.{Inside, stands, title-long}
 use Rattle.values.proofs.Walks.{less, grids-front, block-front, bounded}
+use Rattle.value_scrub.specs.declared.Blocks.{Blocks}
+use Rattle.value_scrub.specs.Tally.{blockTally}
+use Rattle.value_scrub.specs.Steps.{bothGrids, RoomyGrids, ScrubbedGrids, ScrubbedBlock}
+use Rattle.value_scrub.proofs.Scrubs.{tally-two, grids-few}
+use Rattle.card_scrub.specs.declared.Tallies.{Tallies}
+use Rattle.card_scrub.specs.Calls.{scrubbedPart, scrubbedCard, talliesOf}
+use Rattle.card_scrub.specs.Steps.{withBlocks, RoomyBlocks, ScrubbedFields}
 
 -- ---- the image from a field on, with the value v in place of its own, and e in place of what is behind it
 
@@ -147,6 +150,21 @@ module _ (s part v e : List ℕ) (r : Blocks) (t : Tallies) (b : Below 8 s) (f :
   }
 
 -- ---- there is room to add up what is counted
+
+pub block-laws : TallyPromises blockCode
+block-laws = tallies blockCode (promised .verdicts)
+
+blocks-few : (ws vs : List ℕ) → length ws ≤ 32768 → length vs ≤ 32768 → RoomyBlocks (blockTally ws) (blockTally vs)
+blocks-few ws vs p q =
+    let few = block-laws .flips in
+    let all = block-laws .all in
+    record {
+      blocks = omega arith;
+      clean = omega (arith, all ws, all vs);
+      mended = omega (arith, all ws, all vs);
+      lost = omega (arith, all ws, all vs);
+      flips = omega (arith, few ws, few vs);
+    }
 
 pub grids-together : (s part v e : List ℕ) (n : ℕ) (r : Tally) (t : Tallies) → Walks s → fieldOf s ≡ Grids n → part ≡ value s
     → ScrubbedGrids part r v → ScrubbedFields (drop (3 + n) s) t e → RoomyGrids r (t .grids)

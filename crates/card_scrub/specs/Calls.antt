@@ -3,15 +3,13 @@
 use mathlib.Core.Path.{_≡_}
 use mathlib.Core.List.{List, map}
 use Prim.Native.Nat.{ℕ}
-use lib.ListN.{length}
-use Rattle.codes.specs.Verdict.{flipsOf, scrubbed}
-use Rattle.codes.specs.Tally.{isClean, isMended, isLost, sumBy}
+use Rattle.codes.specs.Verdict.{scrubbed}
 use Rattle.grid_code.specs.Code.{gridCode}
 use Rattle.block_code.specs.Code.{blockCode}
 use Rattle.page.specs.Calls.{tallyOf}
 use Rattle.image.specs.Card.{Part, grids, block, Card, gridsIn, blocksIn, imageOf}
 use Rattle.image.specs.Calls.{judged}
-use Rattle.card_scrub.specs.declared.Blocks.{Blocks}
+use Rattle.value_scrub.specs.Tally.{blockTally}
 use Rattle.card_scrub.specs.declared.Tallies.{Tallies}
 use Rattle.card_scrub.specs.declared.ScrubAnswer.{ScrubAnswer}
 use Rattle.card_scrub.specs.declared.ScrubAnswer.the-variants.{Done, Length, Broken}
@@ -24,16 +22,6 @@ scrubbedPart (block w) = block (scrubbed blockCode w)
 -- all else stays
 abbrev pub scrubbedCard : Card → Card
 scrubbedCard c = record { title = c .title; parts = map scrubbedPart (c .parts) }
-
--- blocks, clean, mended, lost and flips
-abbrev pub blockTally : List ℕ → Blocks
-blockTally ws = record {
-  blocks = length ws;
-  clean = sumBy blockCode isClean ws;
-  mended = sumBy blockCode isMended ws;
-  lost = sumBy blockCode isLost ws;
-  flips = sumBy blockCode flipsOf ws;
-}
 
 abbrev pub talliesOf : List Part → Tallies
 talliesOf ps = record { grids = tallyOf (gridsIn ps); blocks = blockTally (blocksIn ps) }

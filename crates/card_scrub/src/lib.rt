@@ -1,23 +1,18 @@
 // The scrub of a card image where it stands.
 //
-// The image is checked as a whole before anything is written (crate image), so a refused call leaves it as it was. The value of a data field
-// is handed to the page's scrub or the block's: a lost grid or block is counted, stays as it is, and is no refusal of the call.
+// The image is checked as a whole before anything is written (crate image), so a refused call leaves it as it was. Then the data fields are
+// scrubbed one behind the other, each value by itself (crate value_scrub): a lost grid or block is counted, stays as it is, and is no refusal
+// of the call.
 //
 // specs/Calls.antt says what the call answers and leaves, and specs/Answer.antt document 01's number for each answer.
+ghost use mathlib.Core.Path.{_≡_};
+ghost use Rattle.values.specs.Steps.{Walks};
 ghost use Rattle.card_scrub.specs.Calls.{Scrubbed};
+ghost use Rattle.card_scrub.specs.Steps.{ScrubbedFields, RoomyBlocks, withBlocks};
+use fields::Field;
 use image::Outcome;
 use page::Tally;
-
-mod scrubbing;
-
-// The five numbers of a scrub, of blocks. Ties count as lost, and flips is the sum over mended blocks.
-pub struct Blocks {
-    pub blocks: u32,
-    pub clean: u32,
-    pub mended: u32,
-    pub lost: u32,
-    pub flips: u32,
-}
+use value_scrub::Blocks;
 
 pub struct Tallies {
     pub grids: Tally,
@@ -29,6 +24,54 @@ pub enum ScrubAnswer {
     Done(Tallies),
     Length,
     Broken(usize),
+}
+
+// A block's tally, with that of what stands behind it.
+fn with_block(here: Blocks, there: Tallies) -> Tallies
+    requires { ⌜ RoomyBlocks here (there .blocks) ⌝ }
+    ensures { λ r. ⌜ r ≡ withBlocks here there ⌝ }
+{
+    let grids = there.grids;
+    let blocks = there.blocks;
+    Tallies {
+        grids,
+        blocks: Blocks {
+            blocks: here.blocks + blocks.blocks,
+            clean: here.clean + blocks.clean,
+            mended: here.mended + blocks.mended,
+            lost: here.lost + blocks.lost,
+            flips: here.flips + blocks.flips,
+        },
+    }
+}
+
+// The data fields at the front of a slice, up to the end field.
+fn fields(rest: &mut [u8]) -> Tallies
+    requires { ⌜ Walks (now rest) ⌝ }
+    ensures { λ r. ⌜ ScrubbedFields (now (rest .entry)) r (now (rest .exit)) ⌝ }
+{
+    match fields::front(rest) {
+        Field::Grids(n) => {
+            let end = fields::HEAD + n;
+            let here = value_scrub::grids(&mut rest[3..end]);
+            let there = fields(&mut rest[end..]);
+            let grids = there.grids;
+            let blocks = there.blocks;
+            Tallies {
+                grids: value_scrub::both(here, grids),
+                blocks,
+            }
+        }
+        Field::Block => {
+            let here = value_scrub::block(&mut rest[3..79]);
+            let there = fields(&mut rest[79..]);
+            with_block(here, there)
+        }
+        _ => Tallies {
+            grids: value_scrub::no_grids(),
+            blocks: value_scrub::no_blocks(),
+        },
+    }
 }
 
 // Scrubs each data field of an image, within the image.
@@ -44,7 +87,7 @@ pub fn scrub(image: &mut [u8]) -> ScrubAnswer
         } => {
             let title = image::title(image).len();
             let end = fields::HEAD + title;
-            ScrubAnswer::Done(scrubbing::fields(&mut image[end..]))
+            ScrubAnswer::Done(fields(&mut image[end..]))
         }
     }
 }

@@ -1,15 +1,15 @@
--- `card_scrub::scrubbing::by_words` meets its contract. Assumes nothing.
+-- `value_scrub::by_words` meets its contract. Assumes nothing.
 use mathlib.Core.Path.{ap, _∙_, subst}
 use Prim.Native.Nat.{ℕ}
 use native.Mathlib.Omega.{arith}
 use denote.Ref.{now}
 use Rattle.words.specs.Bytes.{wordsIn}
-use Rattle.card_scrub.specs.declared.Blocks.{Blocks}
-use Rattle.card_scrub.specs.Steps.{ScrubbedBlock}
-use Rattle.card_scrub.proofs.Scrubs.{ofAnswer, not-mended, words-written, words-kept}
+use Rattle.value_scrub.specs.declared.Blocks.{Blocks}
+use Rattle.value_scrub.specs.Steps.{ScrubbedBlock}
+use Rattle.value_scrub.proofs.Scrubs.{ofAnswer, not-mended, words-written, words-kept}
 use borrow.Author.Needs.{needs}
-use Rattle.card_scrub.proofs.scrubbing.by_words.Statement.{statement}
-use Rattle.card_scrub.proofs.scrubbing.by_words.Tie as tie
+use Rattle.value_scrub.proofs.by_words.Statement.{statement}
+use Rattle.value_scrub.proofs.by_words.Tie as tie
 
 returns : tie.Need-returns
 returns c =

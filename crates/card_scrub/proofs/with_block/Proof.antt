@@ -1,8 +1,8 @@
--- `card_scrub::scrubbing::with_block` meets its contract. Assumes nothing.
+-- `card_scrub::with_block` meets its contract. Assumes nothing.
 use mathlib.Core.Path.{refl}
 use borrow.Author.Needs.{needs}
-use Rattle.card_scrub.proofs.scrubbing.with_block.Statement.{statement}
-use Rattle.card_scrub.proofs.scrubbing.with_block.Tie as tie
+use Rattle.card_scrub.proofs.with_block.Statement.{statement}
+use Rattle.card_scrub.proofs.with_block.Tie as tie
 
 returns : tie.Need-returns
 returns c = refl

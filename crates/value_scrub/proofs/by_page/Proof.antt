@@ -1,4 +1,4 @@
--- `card_scrub::scrubbing::by_page` meets its contract. Assumes nothing.
+-- `value_scrub::by_page` meets its contract. Assumes nothing.
 use mathlib.Core.Path.{ap, subst}
 use Prim.Native.Nat.{_≤_}
 use native.Mathlib.Omega.{arith}
@@ -7,10 +7,10 @@ use denote.Ref.{now}
 use Rattle.words.proofs.Bytes.{length-words}
 use Rattle.page.specs.Calls.{Scrubbed, numberOf}
 use Rattle.page.proofs.Promises.{promised}
-use Rattle.card_scrub.proofs.Scrubs.{page-written, page-kept}
+use Rattle.value_scrub.proofs.Scrubs.{page-written, page-kept}
 use borrow.Author.Needs.{needs}
-use Rattle.card_scrub.proofs.scrubbing.by_page.Statement.{statement}
-use Rattle.card_scrub.proofs.scrubbing.by_page.Tie as tie
+use Rattle.value_scrub.proofs.by_page.Statement.{statement}
+use Rattle.value_scrub.proofs.by_page.Tie as tie
 
 returns : tie.Need-returns
 returns c =

@@ -1,4 +1,4 @@
--- `card_scrub::scrubbing::by_pages` meets its contract: 64 grids, and those behind them. What is left gets shorter. Assumes nothing.
+-- `value_scrub::by_pages` meets its contract: 64 grids, and those behind them. What is left gets shorter. Assumes nothing.
 use mathlib.Core.Path.{sym, _∙_}
 use mathlib.Core.List.{_++_}
 use Prim.Native.Nat.{ℕ, _-_, _/_, _<_, _≤_}
@@ -7,17 +7,17 @@ use lib.ListN.{length, take, drop, length-append, length-drop}
 use lib.Seq.{length-take-le}
 use denote.Ref.{now}
 use Rattle.words.proofs.Lists.{length-part}
-use Rattle.card_scrub.proofs.Scrubs.{grids-roomy, grids-parts}
+use Rattle.value_scrub.proofs.Scrubs.{grids-roomy, grids-parts}
 use borrow.Author.Needs.{needs}
 use borrow.Fn.Kinds.{In}
 use borrow.Fn.PlainCycle.{Measures, is, falls, and}
-use Rattle.card_scrub.proofs.scrubbing.by_pages.Reads as by-pages
-use Rattle.card_scrub.proofs.scrubbing.by_pages.Kinds as by-pages-kinds
-use Rattle.card_scrub.proofs.scrubbing.+by_pages.Lts-by_pages as lts
-use Rattle.card_scrub.proofs.scrubbing.both.Reads as both-reads
-use Rattle.card_scrub.proofs.scrubbing.by_page.Reads as by-page-reads
-use Rattle.card_scrub.proofs.scrubbing.+by_pages.{statement}
-use Rattle.card_scrub.proofs.scrubbing.+by_pages.Tie.{close}
+use Rattle.value_scrub.proofs.by_pages.Reads as by-pages
+use Rattle.value_scrub.proofs.by_pages.Kinds as by-pages-kinds
+use Rattle.value_scrub.proofs.+by_pages.Lts-by_pages as lts
+use Rattle.value_scrub.proofs.both.Reads as both-reads
+use Rattle.value_scrub.proofs.by_page.Reads as by-page-reads
+use Rattle.value_scrub.proofs.+by_pages.{statement}
+use Rattle.value_scrub.proofs.+by_pages.Tie.{close}
 
 abbrev μ-by-pages : Measures 2 by-pages-kinds.ps ℕ
 μ-by-pages κs a = length (a .0 .now)
@@ -48,18 +48,6 @@ module _ (t : ℕ) where
       let s = c .before .before .before .before .before in
       (length-take-le 512 (now (s .args .value)) (omega arith) ∙ omega (arith, s .pre .1 .2), omega (arith, s .pre .1 .2))
 
-  roomy : lts.Need-both-requires (by-page-reads.Asked, by-page-reads.Learnt, by-pages-below t, by-pages.Post, both-reads.Asked, both-reads.Learnt) (by-pages-at t) by-pages.Post
-  roomy c κs =
-      let s = c .before .before .before .before .before .before .before .before .before .before .before .before .before .before .before .before .before in
-      let v = now (s .args .value) in
-      let page = c .before .before .before .before .before .before .before .before .before .before .before .by-page2 in
-      let pages = c .before .before .before .before .by-pages in
-      let front = length-take-le 512 v (omega (arith, c .before .before .before .before .before .before .before .before .before .before .before .before .before .before .if1 .left)) in
-      let behind = length-part 512 (page .last .0 ++ drop 512 v) in
-      let few : length (page .last .0 ++ drop 512 v) ≤ 4096 = omega (arith, s .pre .1 .0, page .kept .0, front, length-append (page .last .0) (drop 512 v), length-drop 512 v) in
-      grids-roomy (take 512 v) (take (length (page .last .0 ++ drop 512 v) - 512) (drop 512 (page .last .0 ++ drop 512 v))) (page .last .0) (pages .last .0)
-      (page .result) (pages .result) (omega (arith, front)) (omega (arith, behind, few)) (page .ensures) (pages .ensures)
-
   in-parts : lts.Need-returns-2 (by-page-reads.Asked, by-page-reads.Learnt, by-pages-below t, by-pages.Post, both-reads.Asked, both-reads.Learnt) (by-pages-at t) by-pages.Post
   in-parts c =
       let s = c .before .before .before .before .before .before .before .before .before .before .before .before .before .before .before .before .before .before in
@@ -67,14 +55,20 @@ module _ (t : ℕ) where
       let page = c .before .before .before .before .before .before .before .before .before .before .before .before .by-page2 in
       let pages = c .before .before .before .before .before .by-pages in
       let long : 512 ≤ length v = omega (arith, c .before .before .before .before .before .before .before .before .before .before .before .before .before .before .before .if1 .left) in
+      let front = length-take-le 512 v long in
+      let lent = page .last .0 ++ drop 512 v in
+      let few : length lent ≤ 4096 = omega (arith, s .pre .1 .0, page .kept .0, front, length-append (page .last .0) (drop 512 v), length-drop 512 v) in
+      let roomy =
+      grids-roomy (take 512 v) (take (length lent - 512) (drop 512 lent)) (page .last .0) (pages .last .0) (page .result) (pages .result)
+      (omega (arith, front)) (omega (arith, length-part 512 lent, few)) (page .ensures) (pages .ensures) in
       let two =
       grids-parts 512 v (page .last .0) (pages .last .0) (page .result) (pages .result) long (omega arith) (s .pre .1 .1)
-      (page .kept .0 ∙ length-take-le 512 v long) (page .ensures) (pages .ensures) in
-      record { answer = c .both .ensures ∙ two .answer; after = two .after }
+      (page .kept .0 ∙ front) (page .ensures) (pages .ensures) in
+      record { answer = c .both .ensures roomy ∙ two .answer; after = two .after }
 
 pub +by-pages-spec : {M : Type 1} → statement M
 +by-pages-spec =
     close μ-by-pages λ t. lts.spec (by-page-reads.Asked, by-page-reads.Learnt, by-pages-below t, by-pages.Post, both-reads.Asked, both-reads.Learnt) (by-pages-at t) by-pages.Post
     (λ c. search needs) (page-count t) (page-fits t) (λ c. search needs) (λ c. search needs) (λ c. search needs)
-    (λ c. search needs) (front-count t) (front-fits t) (λ c. search needs) (λ c. search needs) (λ c. search needs) (λ c κs. search
-    needs) (roomy t) (λ c. search needs) (λ c. search needs) (in-parts t)
+    (λ c. search needs) (front-count t) (front-fits t) (λ c. search needs) (λ c. search needs) (λ c. search needs) (λ c κs. search needs)
+    (λ c κs. search needs) (λ c. search needs) (λ c. search needs) (in-parts t)

@@ -18,8 +18,8 @@ use Rattle.words.proofs.Fields.{length-fields, fields-joined}
 use Rattle.words.proofs.Lists.{part-behind}
 use Rattle.words.proofs.Bytes.{length-words, words-two, bytes-append, bytes-words, words-below}
 use Rattle.codes.specs.Verdict.{Verdict, clean, mended, lost, tie, verdict, scrubbed, flipsOf}
-use Rattle.codes.specs.Tally.{isClean, isMended, isLost, sumBy, TallyPromises}
-use Rattle.codes.proofs.Tally.{unmended, sum-append, tallies}
+use Rattle.codes.specs.Tally.{isClean, isMended, isLost, sumBy}
+use Rattle.codes.proofs.Tally.{unmended, sum-append}
 use Rattle.grid_code.specs.Code.{gridCode}
 use Rattle.block_code.specs.Code.{blockCode}
 use Rattle.block.specs.Answer.{answerOf}
@@ -32,10 +32,10 @@ use Rattle.grid_code.proofs.Promises as grid
 use Rattle.page.specs.declared.Tally.{Tally}
 use Rattle.page.specs.declared.Outcome.the-variants.{Done}
 use Rattle.page.specs.Calls.{tallyOf, Scrubbed}
-use Rattle.page.proofs.Promises.{laws, promised, counted}
-use Rattle.card_scrub.specs.declared.Blocks.{Blocks}
-use Rattle.card_scrub.specs.Calls.{blockTally}
-use Rattle.card_scrub.specs.Steps.{bothGrids, RoomyGrids, RoomyBlocks, ScrubbedGrids, ScrubbedBlock}
+use Rattle.page.proofs.Promises.{laws, counted}
+use Rattle.value_scrub.specs.declared.Blocks.{Blocks}
+use Rattle.value_scrub.specs.Tally.{blockTally}
+use Rattle.value_scrub.specs.Steps.{bothGrids, RoomyGrids, ScrubbedGrids, ScrubbedBlock}
 
 -- ---- a scrub that mends nothing changes nothing
 
@@ -219,18 +219,3 @@ module _ (value words after : List ℕ) (r : Outcome) (fits : length value ≡ 7
         ∙ ap (bytesOf 2) (fields-joined 16 38 (wordsIn 2 38 value) (length-words 2 38 value) (words-below 2 38 value (omega (arith, fits)) bytes))
         ∙ bytes-words 2 38 value fits bytes);
   }
-
-pub block-laws : TallyPromises blockCode
-block-laws = tallies blockCode (blocks.promised .verdicts)
-
-pub blocks-few : (ws vs : List ℕ) → length ws ≤ 32768 → length vs ≤ 32768 → RoomyBlocks (blockTally ws) (blockTally vs)
-blocks-few ws vs p q =
-    let few = block-laws .flips in
-    let all = block-laws .all in
-    record {
-      blocks = omega arith;
-      clean = omega (arith, all ws, all vs);
-      mended = omega (arith, all ws, all vs);
-      lost = omega (arith, all ws, all vs);
-      flips = omega (arith, few ws, few vs);
-    }

@@ -1,17 +1,26 @@
-// The scrub of the data fields, one behind the other.
+// The value of a data field scrubbed where it stands: the grids by way of pages, the block by way of its words. Each public function accepts
+// every input; what it does is promised where the length fits.
+//
+// specs/Tally.antt says what is counted of blocks, and the scrub of a card image cites it. No promise to a caller cites anything else of this
+// crate.
 ghost use mathlib.Core.Path.{_≡_};
 ghost use Prim.Native.Nat.{_*_, _%_, _≤_};
 ghost use lib.ListN.{length};
 ghost use Rattle.page.specs.Steps.{none};
-ghost use Rattle.card_scrub.specs.Steps.{ScrubbedGrids, ScrubbedBlock, ScrubbedFields, RoomyGrids, RoomyBlocks, noBlocks, bothGrids, withBlocks};
-ghost use Rattle.values.specs.Steps.{Walks};
-use super::Blocks;
-use super::Tallies;
+ghost use Rattle.value_scrub.specs.Steps.{ScrubbedGrids, ScrubbedBlock, RoomyGrids, noBlocks, bothGrids};
 use block::Block;
-use fields::Field;
 use page::Tally;
 
-fn no_grids() -> Tally
+// The five numbers of a scrub, of blocks. Ties count as lost, and flips is the sum over mended blocks.
+pub struct Blocks {
+    pub blocks: u32,
+    pub clean: u32,
+    pub mended: u32,
+    pub lost: u32,
+    pub flips: u32,
+}
+
+pub fn no_grids() -> Tally
     ensures { λ r. ⌜ r ≡ none ⌝ }
 {
     Tally {
@@ -23,7 +32,7 @@ fn no_grids() -> Tally
     }
 }
 
-fn no_blocks() -> Blocks
+pub fn no_blocks() -> Blocks
     ensures { λ r. ⌜ r ≡ noBlocks ⌝ }
 {
     Blocks {
@@ -35,36 +44,16 @@ fn no_blocks() -> Blocks
     }
 }
 
-// Two tallies, added up.
-fn both(here: Tally, there: Tally) -> Tally
-    requires { ⌜ RoomyGrids here there ⌝ }
-    ensures { λ r. ⌜ r ≡ bothGrids here there ⌝ }
+// Two tallies, added up. The sums wrap, so that there are no two tallies that it does not accept.
+pub fn both(here: Tally, there: Tally) -> Tally
+    ensures { λ r. ⌜ (RoomyGrids here there → r ≡ bothGrids here there) ⌝ }
 {
     Tally {
-        grids: here.grids + there.grids,
-        clean: here.clean + there.clean,
-        mended: here.mended + there.mended,
-        lost: here.lost + there.lost,
-        flips: here.flips + there.flips,
-    }
-}
-
-// A block's tally, with that of what stands behind it.
-fn with_block(here: Blocks, there: Tallies) -> Tallies
-    requires { ⌜ RoomyBlocks here (there .blocks) ⌝ }
-    ensures { λ r. ⌜ r ≡ withBlocks here there ⌝ }
-{
-    let grids = there.grids;
-    let blocks = there.blocks;
-    Tallies {
-        grids,
-        blocks: Blocks {
-            blocks: here.blocks + blocks.blocks,
-            clean: here.clean + blocks.clean,
-            mended: here.mended + blocks.mended,
-            lost: here.lost + blocks.lost,
-            flips: here.flips + blocks.flips,
-        },
+        grids: std::num::wrapping_add_u32(here.grids, there.grids),
+        clean: std::num::wrapping_add_u32(here.clean, there.clean),
+        mended: std::num::wrapping_add_u32(here.mended, there.mended),
+        lost: std::num::wrapping_add_u32(here.lost, there.lost),
+        flips: std::num::wrapping_add_u32(here.flips, there.flips),
     }
 }
 
@@ -99,11 +88,16 @@ fn by_pages(value: &mut [u8], page: &mut [u64]) -> Tally
     both(here, there)
 }
 
-// The value of a grids field.
-fn grids_field(value: &mut [u8]) -> Tally
-    requires { ⌜ (length (now value) ≤ 4096) × (length (now value) % 8 ≡ 0) ⌝ }
-    ensures { λ r. ⌜ ScrubbedGrids (now (value .entry)) r (now (value .exit)) ⌝ }
+// The value of a grids field. One of another length stays as it is.
+pub fn grids(value: &mut [u8]) -> Tally
+    ensures { λ r. ⌜ ((length (now (value .entry)) ≤ 4096) × (length (now (value .entry)) % 8 ≡ 0) → ScrubbedGrids (now (value .entry)) r (now (value .exit))) ⌝ }
 {
+    if value.len() > 4096 {
+        return no_grids();
+    }
+    if value.len() % 8 != 0 {
+        return no_grids();
+    }
     let mut page = [0u64; 64];
     by_pages(value, &mut page)
 }
@@ -142,40 +136,13 @@ fn by_words(value: &mut [u8], words: &mut [u16]) -> Blocks
     }
 }
 
-// The value of a block field.
-fn block_field(value: &mut [u8]) -> Blocks
-    requires { ⌜ length (now value) ≡ 76 ⌝ }
-    ensures { λ r. ⌜ ScrubbedBlock (now (value .entry)) r (now (value .exit)) ⌝ }
+// The value of a block field. One of another length stays as it is.
+pub fn block(value: &mut [u8]) -> Blocks
+    ensures { λ r. ⌜ (length (now (value .entry)) ≡ 76 → ScrubbedBlock (now (value .entry)) r (now (value .exit))) ⌝ }
 {
+    if value.len() != 76 {
+        return no_blocks();
+    }
     let mut words = [0u16; 38];
     by_words(value, &mut words)
-}
-
-// The data fields at the front of a slice, up to the end field.
-pub(super) fn fields(rest: &mut [u8]) -> Tallies
-    requires { ⌜ Walks (now rest) ⌝ }
-    ensures { λ r. ⌜ ScrubbedFields (now (rest .entry)) r (now (rest .exit)) ⌝ }
-{
-    match fields::front(rest) {
-        Field::Grids(n) => {
-            let end = fields::HEAD + n;
-            let here = grids_field(&mut rest[3..end]);
-            let there = fields(&mut rest[end..]);
-            let grids = there.grids;
-            let blocks = there.blocks;
-            Tallies {
-                grids: both(here, grids),
-                blocks,
-            }
-        }
-        Field::Block => {
-            let here = block_field(&mut rest[3..79]);
-            let there = fields(&mut rest[79..]);
-            with_block(here, there)
-        }
-        _ => Tallies {
-            grids: no_grids(),
-            blocks: no_blocks(),
-        },
-    }
 }
