@@ -1,6 +1,6 @@
 -- The worked numbers hold: one computed test over the list. Assumes nothing.
 use mathlib.Core.Path.{_≡_, sym, ap, _∙_, subst}
-use mathlib.Core.Bool.{Bool, false}
+use mathlib.Core.Bool.{Bool, false, _&&_}
 use mathlib.Core.List.{List, [], _∷_}
 use Prim.Native.Nat.{ℕ, zero, suc, _*_, _^_, _≤_, _<_}
 use lib.Bits.{bitXor}
@@ -10,7 +10,7 @@ use Rattle.words.specs.Word.{dist, sumTo}
 use Rattle.words.specs.Fields.{fields}
 use Rattle.words.proofs.Dist.{dist-sym}
 use Rattle.words.proofs.Fields.{dist-fields}
-use Rattle.words.proofs.Test.{both, both-left, both-right, every}
+use Rattle.words.proofs.Test.{both-left, both-right, every}
 use Rattle.words.proofs.Xor.{xor-cancel-l}
 use Rattle.codes.specs.Verdict.{Code, Verdict, clean, mended, lost, tie, off, IsVerdict, answered, verdict}
 use Rattle.codes.specs.Promises.{Promises}
@@ -35,11 +35,11 @@ apart w d = sumTo 8 (λ r. dist (rowOf w r) (rowOf (codeword d) r))
 
 -- data, flips and word are in range, and the flips are the places counted
 near? : ℕ → ℕ → ℕ → Bool
-near? w d n = both (ltb w (2 ^ 64)) (both (ltb d (2 ^ 16)) (both (eqb (apart w d) n) (leb n 7)))
+near? w d n = ltb w (2 ^ 64) && (ltb d (2 ^ 16) && (eqb (apart w d) n && leb n 7))
 
 -- a word eight places from the grid of 0 is lost
 lost? : ℕ → Bool
-lost? w = both (ltb w (2 ^ 64)) (eqb (apart w 0) 8)
+lost? w = ltb w (2 ^ 64) && eqb (apart w 0) 8
 
 -- the block of d, with the system parity over the columns: 16 places to count and not 32
 block : ℕ → ℕ
@@ -48,13 +48,13 @@ block d =
     (bitXor (stacked 1 (λ x. x) (fields 16 32 d)) (odd (columnsOf (fields 16 32 d)) * 2 ^ 47))
 
 right? : Case → Bool
-right? (ofGrid d g) = both (ltb d (2 ^ 16)) (eqb (codeword d) g)
+right? (ofGrid d g) = ltb d (2 ^ 16) && eqb (codeword d) g
 right? (read w (clean d)) = near? w d 0
 right? (read w (mended d zero)) = false
 right? (read w (mended d (suc n))) = near? w d (suc n)
 right? (read w lost) = lost? w
 right? (read w tie) = false
-right? (ofBlock d w) = both (ltb d (2 ^ 512)) (eqb (block d) w)
+right? (ofBlock d w) = ltb d (2 ^ 512) && eqb (block d) w
 
 -- ---- and what follows
 
@@ -69,11 +69,11 @@ counted w d l h = dist-fields 8 8 w (codeword d) l (codeword-lt d h)
 near : (w d n : ℕ) → T (near? w d n) → verdict gridCode w ≡ answered d n
 unfolding near?
 near w d n t =
-    let l : w < 2 ^ 64 = ltb→lt w (2 ^ 64) (both-left (ltb w (2 ^ 64)) (both (ltb d (2 ^ 16)) (both (eqb (apart w d) n) (leb n 7))) t) in
-    let u : T (both (ltb d (2 ^ 16)) (both (eqb (apart w d) n) (leb n 7))) =
-    both-right (ltb w (2 ^ 64)) (both (ltb d (2 ^ 16)) (both (eqb (apart w d) n) (leb n 7))) t in
-    let h : d < 2 ^ 16 = ltb→lt d (2 ^ 16) (both-left (ltb d (2 ^ 16)) (both (eqb (apart w d) n) (leb n 7)) u) in
-    let v : T (both (eqb (apart w d) n) (leb n 7)) = both-right (ltb d (2 ^ 16)) (both (eqb (apart w d) n) (leb n 7)) u in
+    let l : w < 2 ^ 64 = ltb→lt w (2 ^ 64) (both-left (ltb w (2 ^ 64)) (ltb d (2 ^ 16) && (eqb (apart w d) n && leb n 7)) t) in
+    let u : T (ltb d (2 ^ 16) && (eqb (apart w d) n && leb n 7)) =
+    both-right (ltb w (2 ^ 64)) (ltb d (2 ^ 16) && (eqb (apart w d) n && leb n 7)) t in
+    let h : d < 2 ^ 16 = ltb→lt d (2 ^ 16) (both-left (ltb d (2 ^ 16)) (eqb (apart w d) n && leb n 7) u) in
+    let v : T (eqb (apart w d) n && leb n 7) = both-right (ltb d (2 ^ 16)) (eqb (apart w d) n && leb n 7) u in
     let e : off gridCode w d ≡ n = counted w d l h ∙ eqb→eq (apart w d) n (both-left (eqb (apart w d) n) (leb n 7) v) in
     found gridCode 16 distance (lit< tt) w d h
     (subst (λ (x : ℕ). x ≤ 7) (sym e) (leb→le n 7 (both-right (eqb (apart w d) n) (leb n 7) v)))
