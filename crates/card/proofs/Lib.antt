@@ -1,3 +1,4 @@
 pub mod Again
 pub mod Switches
+pub mod ReadBack
 pub mod Promises

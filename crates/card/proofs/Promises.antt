@@ -12,8 +12,7 @@ use Rattle.words.specs.Word.{choose}
 use Rattle.words.specs.Fields.{Below}
 use Rattle.words.specs.Bytes.{laid}
 use Rattle.words.proofs.Bytes.{take-laid, drop-laid}
-use Rattle.codes.specs.Verdict.{verdict}
-use Rattle.grid_code.specs.Code.{codeword, gridCode}
+use Rattle.grid_code.specs.Code.{codeword}
 use Rattle.page.proofs.Promises.{laws}
 use Rattle.fields.specs.Fields.{firstBad}
 use Rattle.image.specs.Card.{Card, Found, sound, broken, gridsIn, blocksIn, cardOf, imageOf}
@@ -27,17 +26,12 @@ use Rattle.card_scrub.specs.declared.ScrubAnswer.{ScrubAnswer}
 use Rattle.card_scrub.specs.declared.ScrubAnswer.the-variants.{Done, Length, Broken}
 use Rattle.card_write.specs.declared.WriteAnswer.{WriteAnswer}
 use Rattle.card_write.specs.declared.WriteAnswer.the-variants.{Done as WriteDone, Length as WriteLength, Title, Room}
-use Rattle.card_read.specs.declared.ReadAnswer.{ReadAnswer}
-use Rattle.card_read.specs.declared.ReadAnswer.the-variants.{Done as ReadDone, Length as ReadLength}
-use Rattle.card_read.specs.declared.ReadAnswer.the-variants.{Broken as ReadBroken, Room as ReadRoom}
-use Rattle.value_read.specs.Shown.{dataShown, flipsShown}
-use Rattle.card_read.specs.Answer.{numberOf as readNumber, placeOf as readPlace}
 use Rattle.card_scrub.specs.Answer.{numberOf as scrubNumber, placeOf as scrubPlace}
 use Rattle.card_write.specs.Answer.{numberOf as writeNumber, placeOf as writePlace}
 use Rattle.card_scrub.specs.Calls.{scrubbedPart, scrubbedCard, talliesOf, Scrubbed}
 use Rattle.card_write.specs.Calls.{cardOn, cardWith, sizeWritten, lengthsAllowed, Wrote}
-use Rattle.card_read.specs.Calls.{roomFor, readAs, Read}
-use Rattle.card.specs.Promises.{Again, ScrubPromises, Switched, WritePromises, ReadPromises, OneOutcome}
+use Rattle.card_read.specs.Calls.{Read}
+use Rattle.card.specs.Promises.{Again, ScrubPromises, Switched, WritePromises, OneOutcome}
 use Rattle.card_scrub.proofs.Parts.{block-laws}
 use Rattle.card_write.proofs.Writes.{is-long, is-bad, is-short, is-done}
 use Rattle.image.proofs.Judged.{judged-long, judged-as}
@@ -234,71 +228,6 @@ write-promised = record {
       let w = after-write title ns image exit k h in
       let (a, t, n, f) = read-on title ns (w .allowed) (w .good) ws s title₀ ns₀ flips₀ l m j r title₁ ns₁ flips₁ small d in
       (a, t, n);
-}
-
--- ---- read back
-
-module _ (image title ns flips title′ ns′ flips′ : List ℕ) (r : ReadAnswer) (h : Read image title ns flips r title′ ns′ flips′) where
-  abbrev fits : {A : Type 0} → A → (Card → A) → Card → A
-  fits short whole c = choose (roomFor c title ns flips) (whole c) short
-
-  abbrev shown : Card → ReadAnswer
-  shown c = ReadDone (length (c .title)) (length (gridsIn (c .parts)))
-
-  -- as the test of the length and the card have it
-  abbrev seen : {A : Type 0} → Bool → Found Card → A → (ℕ → A) → A → (Card → A) → A
-  seen t x long breaks short whole = choose t (byFound breaks (fits short whole) x) long
-
-  abbrev datas : Card → List ℕ
-  datas c = laid (map (λ w. dataShown (verdict gridCode w)) (gridsIn (c .parts))) ns
-
-  abbrev counts : Card → List ℕ
-  counts c = laid (map (λ w. flipsShown (verdict gridCode w)) (gridsIn (c .parts))) flips
-
-  not-read : (readNumber r ≡ 0 → ⊥) → (title′ ≡ title) × (ns′ ≡ ns) × (flips′ ≡ flips)
-  not-read n = go (leb (length image) 32768) (cardOf image) (h .answer) (h .title-after) (h .numbers-after) (h .flips-after)
-    where
-      by-room : (c : Card) (b : Bool) → r ≡ choose b (shown c) ReadRoom → title′ ≡ choose b (laid (c .title) title) title
-          → ns′ ≡ choose b (datas c) ns → flips′ ≡ choose b (counts c) flips → (title′ ≡ title) × (ns′ ≡ ns) × (flips′ ≡ flips)
-      by-room c true a p q u = absurd (n (ap readNumber a))
-      by-room c false a p q u = (p, q, u)
-
-      go : (t : Bool) (x : Found Card) → r ≡ seen t x ReadLength ReadBroken ReadRoom shown
-          → title′ ≡ seen t x title (λ at. title) title (λ c. laid (c .title) title) → ns′ ≡ seen t x ns (λ at. ns) ns datas
-          → flips′ ≡ seen t x flips (λ at. flips) flips counts → (title′ ≡ title) × (ns′ ≡ ns) × (flips′ ≡ flips)
-      go true (sound c) a p q u = by-room c (roomFor c title ns flips) a p q u
-      go true (broken k) a p q u = (p, q, u)
-      go false x a p q u = (p, q, u)
-
-  read-long : 32768 < length image → readNumber r ≡ 3
-  read-long l = ap readNumber (h .answer ∙ judged-long image ReadLength ReadBroken (fits ReadRoom shown) (lt-leb (length image) 32768 l))
-
-  read-broken : (at : ℕ) → length image ≤ 32768 → cardOf image ≡ broken at → r ≡ ReadBroken at
-  read-broken at l e = h .answer ∙ judged-as image ReadLength ReadBroken (fits ReadRoom shown) (le-leb (length image) 32768 l) e
-
-  module _ (c : Card) (l : length image ≤ 32768) (e : cardOf image ≡ sound c) {b : Bool} (n : roomFor c title ns flips ≡ b) where
-    by-room : {A : Type 0} (long : A) (breaks : ℕ → A) (short : A) (whole : Card → A)
-        → readAs image title ns flips long breaks short whole ≡ choose b (whole c) short
-    by-room long breaks short whole =
-        judged-as image long breaks (fits short whole) (le-leb (length image) 32768 l) e ∙ ap (λ (b : Bool). choose b (whole c) short) n
-
-    read-sound : (r ≡ choose b (shown c) ReadRoom) × (title′ ≡ choose b (laid (c .title) title) title) × (ns′ ≡ choose b (datas c) ns)
-        × (flips′ ≡ choose b (counts c) flips)
-    read-sound = (
-      h .answer ∙ by-room ReadLength ReadBroken ReadRoom shown,
-      h .title-after ∙ by-room title (λ at. title) title (λ c. laid (c .title) title),
-      h .numbers-after ∙ by-room ns (λ at. ns) ns datas,
-      h .flips-after ∙ by-room flips (λ at. flips) flips counts,
-    )
-
-pub read-promised : ReadPromises
-read-promised = record {
-  refused = λ image title ns flips title′ ns′ flips′ r h n. not-read image title ns flips title′ ns′ flips′ r h n;
-  long = λ image title ns flips title′ ns′ flips′ r l h. read-long image title ns flips title′ ns′ flips′ r h l;
-  broken-image = λ image title ns flips title′ ns′ flips′ at r l e h.
-      let a = read-broken image title ns flips title′ ns′ flips′ r h at l e in (ap readNumber a, ap readPlace a);
-  short = λ image title ns flips title′ ns′ flips′ c r l e h n. ap readNumber (read-sound image title ns flips title′ ns′ flips′ r h c l e n .0);
-  accepted = λ image title ns flips title′ ns′ flips′ c r l e h n. read-sound image title ns flips title′ ns′ flips′ r h c l e n;
 }
 
 -- ---- no second outcome

@@ -9,8 +9,9 @@ use lib.Dec.{leb, eqb}
 use lib.ListN.{length, getD, replicate, length-map, length-replicate, getD-replicate}
 use lib.Seq.{ext-getD}
 use borrow.Author.Tests.{leb-true, le-leb}
-use Rattle.words.specs.Word.{dist, choose}
+use Rattle.words.specs.Word.{dist}
 use Rattle.words.specs.Fields.{Below}
+use Rattle.words.proofs.Bytes.{below-map}
 use Rattle.words.specs.Bytes.{laid}
 use Rattle.words.proofs.Lists.{map-getD}
 use Rattle.words.proofs.Dist.{dist-self}
@@ -25,12 +26,11 @@ use Rattle.image.specs.Promises.{Proper}
 use Rattle.image.proofs.Promises as image
 use Rattle.card_read.specs.declared.ReadAnswer.{ReadAnswer}
 use Rattle.card_read.specs.declared.ReadAnswer.the-variants.{Done, Length, Broken, Room}
-use Rattle.value_read.specs.Shown.{dataShown, flipsShown}
+use Rattle.value_read.specs.Shown.{dataShown, flipsShown, dataOfGrid, flipsOfGrid, dataOfGrids, flipsOfGrids}
 use Rattle.card_write.specs.Calls.{cardOn, lengthsAllowed}
 use Rattle.card_read.specs.Calls.{roomFor, readAs, Read}
 use Rattle.card.specs.Promises.{Switched}
-use Rattle.image.proofs.Judged.{judged-as}
-use Rattle.words.proofs.Bytes.{below-map}
+use Rattle.card_read.proofs.Readings.{roomy, read-by-room}
 use Rattle.card.proofs.Again.{grids-long, card-long}
 
 -- ---- grid by grid
@@ -57,9 +57,9 @@ module _ (ns ws : List ℕ) (small : Below 16 ns) (s : Switched ns ws) where
   handed : (i : ℕ) → i < length ns → Hands (verdict gridCode (getD ws i 0)) (getD ns i 0) (off gridCode (getD ws i 0) (getD ns i 0))
   handed i l = promised .verdicts .demand3 (getD ws i 0) .given (getD ns i 0) (small i) (s .few i l)
 
-  numbers-read : map (λ w. dataShown (verdict gridCode w)) ws ≡ ns
+  numbers-read : dataOfGrids ws ≡ ns
   numbers-read =
-      mapped (λ w. dataShown (verdict gridCode w)) ws ns (s .many)
+      mapped dataOfGrid ws ns (s .many)
       (λ i l. handed-data (verdict gridCode (getD ws i 0)) (getD ns i 0) (off gridCode (getD ws i 0) (getD ns i 0)) (handed i l))
 
   pub put-right : map (scrubbed gridCode) ws ≡ map codeword ns
@@ -82,13 +82,13 @@ module _ (ns : List ℕ) (small : Below 16 ns) where
         omega (arith, e);
   }
 
-  pub no-flips : map (λ w. flipsShown (verdict gridCode w)) (map codeword ns) ≡ replicate (length ns) 0
+  pub no-flips : flipsOfGrids (map codeword ns) ≡ replicate (length ns) 0
   no-flips =
-      mapped (λ w. flipsShown (verdict gridCode w)) (map codeword ns) (replicate (length ns) 0)
+      mapped flipsOfGrid (map codeword ns) (replicate (length ns) 0)
       (length-map ns codeword ∙ sym (length-replicate (length ns) 0))
       (λ i l.
       let m : i < length ns = omega (arith, l, length-replicate {A = ℕ} (length ns) 0) in
-      ap (λ (w : ℕ). flipsShown (verdict gridCode w)) (map-getD codeword ns i m)
+      ap flipsOfGrid (map-getD codeword ns i m)
       ∙ ap flipsShown (promised .verdicts .unharmed (getD ns i 0) (small i))
       ∙ sym (getD-replicate (length ns) i 0 0 m))
 
@@ -131,32 +131,27 @@ module _ (title ns : List ℕ) (allowed : lengthsAllowed title ns ≡ true) wher
       many = ap length (append-nil ws) ∙ s .many
 
       room : roomFor (cardOn title ws) title₀ ns₀ flips₀ ≡ true
-      room =
-          let n = length (ws ++ []) in
-          ap (λ (b : Bool). b && leb n (length ns₀) && leb n (length flips₀)) (le-leb (length title) (length title₀) l)
-          ∙ ap (λ (b : Bool). b && leb n (length flips₀)) (le-leb n (length ns₀) (omega (arith, m, many)))
-          ∙ le-leb n (length flips₀) (omega (arith, k, many))
+      room = roomy title₀ ns₀ flips₀ (cardOn title ws) l (omega (arith, m, many)) (omega (arith, k, many))
 
       read-as : {A : Type 0} (long : A) (breaks : ℕ → A) (short : A) (whole : Card → A)
           → readAs (imageOf (cardOn title ws)) title₀ ns₀ flips₀ long breaks short whole ≡ whole (cardOn title ws)
       read-as long breaks short whole =
-          judged-as (imageOf (cardOn title ws)) long breaks (λ c. choose (roomFor c title₀ ns₀ flips₀) (whole c) short)
-          (le-leb (length (imageOf (cardOn title ws))) 32768 few) found-on
-          ∙ ap (λ (b : Bool). choose b (whole (cardOn title ws)) short) room
+          read-by-room (imageOf (cardOn title ws)) title₀ ns₀ flips₀ long breaks short whole (cardOn title ws)
+          (le-leb (length (imageOf (cardOn title ws))) 32768 few) found-on room
 
       pub read-on : (r : ReadAnswer) (title₁ ns₁ flips₁ : List ℕ) → Below 16 ns
           → Read (imageOf (cardOn title ws)) title₀ ns₀ flips₀ r title₁ ns₁ flips₁
           → (r ≡ Done (length title) (length ns)) × (title₁ ≡ laid title title₀) × (ns₁ ≡ laid ns ns₀)
-          × (flips₁ ≡ laid (map (λ w. flipsShown (verdict gridCode w)) ws) flips₀)
+          × (flips₁ ≡ laid (flipsOfGrids ws) flips₀)
       read-on r title₁ ns₁ flips₁ small d = (
         d .answer
             ∙ read-as Length Broken Room (λ c. Done (length (c .title)) (length (gridsIn (c .parts))))
             ∙ ap (Done (length title)) many,
         d .title-after ∙ read-as title₀ (λ at. title₀) title₀ (λ c. laid (c .title) title₀),
         d .numbers-after
-            ∙ read-as ns₀ (λ at. ns₀) ns₀ (λ c. laid (map (λ w. dataShown (verdict gridCode w)) (gridsIn (c .parts))) ns₀)
-            ∙ ap (λ l. laid l ns₀) (ap (map (λ w. dataShown (verdict gridCode w))) (append-nil ws) ∙ numbers-read ns ws small s),
+            ∙ read-as ns₀ (λ at. ns₀) ns₀ (λ c. laid (dataOfGrids (gridsIn (c .parts))) ns₀)
+            ∙ ap (λ l. laid l ns₀) (ap dataOfGrids (append-nil ws) ∙ numbers-read ns ws small s),
         d .flips-after
-            ∙ read-as flips₀ (λ at. flips₀) flips₀ (λ c. laid (map (λ w. flipsShown (verdict gridCode w)) (gridsIn (c .parts))) flips₀)
-            ∙ ap (λ l. laid (map (λ w. flipsShown (verdict gridCode w)) l) flips₀) (append-nil ws),
+            ∙ read-as flips₀ (λ at. flips₀) flips₀ (λ c. laid (flipsOfGrids (gridsIn (c .parts))) flips₀)
+            ∙ ap (λ l. laid (flipsOfGrids l) flips₀) (append-nil ws),
       )

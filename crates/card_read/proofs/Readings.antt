@@ -13,7 +13,7 @@ use Rattle.words.proofs.Bytes.{length-words, laid-part}
 use Rattle.fields.specs.declared.Field.the-variants.{Grids}
 use Rattle.fields.specs.Fields.{value, fieldOf}
 use Rattle.fields.proofs.Fields.{known, length-value, grids-size}
-use Rattle.image.specs.Card.{Part, Card, broken, gridsIn, gridsAt, cardOf}
+use Rattle.image.specs.Card.{Part, Card, sound, broken, gridsIn, gridsAt, cardOf}
 use Rattle.card_read.specs.declared.ReadAnswer.the-variants.{Done, Length, Broken, Room}
 use Rattle.value_read.specs.Shown.{dataOfGrids, flipsOfGrids}
 use Rattle.card_read.specs.Calls.{roomFor, readAs, Read}
@@ -49,6 +49,23 @@ module _ (s : List ℕ) (ps : List Part) (n left next : ℕ) (f : fieldOf s ≡ 
       (e ∙ ap (λ l. laid (map g l) before) words) room h
       ∙ ap (λ l. laid l before) (sym (map-append g ws (gridsIn (front .behind))) ∙ ap (λ ps. map g (gridsIn ps)) (sym (front .is)))
 
+-- ---- the room
+
+module _ (title numbers flips : List ℕ) (c : Card) where
+  abbrev many : ℕ
+  many = length (gridsIn (c .parts))
+
+  no-room : length title < length (c .title) → roomFor c title numbers flips ≡ false
+  no-room l = ap (λ (b : Bool). b && leb many (length numbers) && leb many (length flips)) (lt-leb (length (c .title)) (length title) l)
+
+  titled : length (c .title) ≤ length title → {b : Bool} → leb many (length numbers) ≡ b → roomFor c title numbers flips ≡ b && leb many (length flips)
+  titled l e =
+      ap (λ (b : Bool). b && leb many (length numbers) && leb many (length flips)) (le-leb (length (c .title)) (length title) l)
+      ∙ ap (λ (b : Bool). b && leb many (length flips)) e
+
+  pub roomy : length (c .title) ≤ length title → many ≤ length numbers → many ≤ length flips → roomFor c title numbers flips ≡ true
+  roomy l m k = titled l (le-leb many (length numbers) m) ∙ le-leb many (length flips) k
+
 -- ---- the order of the refusals
 
 module _ (image title numbers flips : List ℕ) where
@@ -68,10 +85,13 @@ module _ (image title numbers flips : List ℕ) where
     is-broken : (at : ℕ) → (leb (length image) 32768 ≡ true) × (cardOf image ≡ broken at) → breaks at ≡ readAs image title numbers flips long breaks short fine
     is-broken at e = sym (judged-as image long breaks chosen (e .0) (e .1))
 
+    pub read-by-room : (c : Card) → leb (length image) 32768 ≡ true → cardOf image ≡ sound c → {b : Bool} → roomFor c title numbers flips ≡ b
+        → readAs image title numbers flips long breaks short fine ≡ choose b (fine c) short
+    read-by-room c l e n = judged-as image long breaks chosen l e ∙ ap (λ (b : Bool). choose b (fine c) short) n
+
     by-room : {g : ℕ} (w : Whole image g) {b : Bool} → roomFor (w .card) title numbers flips ≡ b
         → choose b (fine (w .card)) short ≡ readAs image title numbers flips long breaks short fine
-    by-room w {b} e =
-        sym (judged-as image long breaks chosen (w .within) (w .is) ∙ ap (λ (b : Bool). choose b (fine (w .card)) short) e)
+    by-room w e = sym (read-by-room (w .card) (w .within) (w .is) e)
 
   pub refused-3 : leb (length image) 32768 ≡ false → Read image title numbers flips Length title numbers flips
   refused-3 e = record {
@@ -90,12 +110,6 @@ module _ (image title numbers flips : List ℕ) where
   }
 
   module _ {g : ℕ} (w : Whole image g) where
-    abbrev card : Card
-    card = w .card
-
-    abbrev many : ℕ
-    many = length (gridsIn (w .card .parts))
-
     refused-6 : roomFor (w .card) title numbers flips ≡ false → Read image title numbers flips Room title numbers flips
     refused-6 e = record {
       answer = by-room Length Broken Room (λ c. Done (length (c .title)) (length (gridsIn (c .parts)))) w e;
@@ -105,27 +119,24 @@ module _ (image title numbers flips : List ℕ) where
     }
 
     pub short-title : length title < length (w .card .title) → Read image title numbers flips Room title numbers flips
-    short-title l =
-        refused-6 (ap (λ (b : Bool). b && leb many (length numbers) && leb many (length flips)) (lt-leb (length (w .card .title)) (length title) l))
+    short-title l = refused-6 (no-room title numbers flips (w .card) l)
 
-    titled : length (w .card .title) ≤ length title → {b : Bool} → leb many (length numbers) ≡ b
-        → roomFor (w .card) title numbers flips ≡ b && leb many (length flips)
-    titled l e =
-        ap (λ (b : Bool). b && leb many (length numbers) && leb many (length flips)) (le-leb (length (w .card .title)) (length title) l)
-        ∙ ap (λ (b : Bool). b && leb many (length flips)) e
-
-    pub short-numbers : length (w .card .title) ≤ length title → length numbers < many → Read image title numbers flips Room title numbers flips
-    short-numbers l m = refused-6 (titled l (lt-leb many (length numbers) m))
-
-    pub short-flips : length (w .card .title) ≤ length title → many ≤ length numbers → length flips < many
+    pub short-numbers : length (w .card .title) ≤ length title → length numbers < length (gridsIn (w .card .parts))
         → Read image title numbers flips Room title numbers flips
-    short-flips l m k = refused-6 (titled l (le-leb many (length numbers) m) ∙ lt-leb many (length flips) k)
+    short-numbers l m = refused-6 (titled title numbers flips (w .card) l (lt-leb (length (gridsIn (w .card .parts))) (length numbers) m))
 
-    pub all-read : (title′ numbers′ flips′ : List ℕ) → length (w .card .title) ≤ length title → many ≤ length numbers → many ≤ length flips
+    pub short-flips : length (w .card .title) ≤ length title → length (gridsIn (w .card .parts)) ≤ length numbers
+        → length flips < length (gridsIn (w .card .parts)) → Read image title numbers flips Room title numbers flips
+    short-flips l m k =
+        let n : ℕ = length (gridsIn (w .card .parts)) in
+        refused-6 (titled title numbers flips (w .card) l (le-leb n (length numbers) m) ∙ lt-leb n (length flips) k)
+
+    pub all-read : (title′ numbers′ flips′ : List ℕ) → length (w .card .title) ≤ length title
+        → length (gridsIn (w .card .parts)) ≤ length numbers → length (gridsIn (w .card .parts)) ≤ length flips
         → title′ ≡ laid (w .card .title) title → numbers′ ≡ datas (w .card) → flips′ ≡ counts (w .card)
-        → Read image title numbers flips (Done (length (w .card .title)) many) title′ numbers′ flips′
+        → Read image title numbers flips (Done (length (w .card .title)) (length (gridsIn (w .card .parts)))) title′ numbers′ flips′
     all-read title′ numbers′ flips′ l m k a b c =
-        let e = titled l (le-leb many (length numbers) m) ∙ le-leb many (length flips) k in
+        let e = roomy title numbers flips (w .card) l m k in
         record {
           answer = by-room Length Broken Room (λ c. Done (length (c .title)) (length (gridsIn (c .parts)))) w e;
           title-after = a ∙ by-room title (λ at. title) title (λ c. laid (c .title) title) w e;
