@@ -18,7 +18,7 @@ use Rattle.words.proofs.Fields.{length-fields, take-fields, joined-fields, join
 use Rattle.codes.specs.Verdict as codes
 use Rattle.codes.specs.Verdict.{clean, mended, lost, tie, answered, refusal, flipsOf, verdict, repaired, scrubbed}
 use Rattle.codes.proofs.Promises.{found, none-near, answered-repaired}
-use Rattle.codes.proofs.Tally.{scrubbed-lt, tallies, again-number, again-no-flips, codeword-now}
+use Rattle.codes.proofs.Tally.{one-refusal, as-it-was, scrubbed-lt, tallies, again-number, again-no-flips, codeword-now}
 use Rattle.block_code.specs.Equations.{Codeword}
 use Rattle.block_code.specs.Code.{codeword, blockCode}
 use Rattle.block.specs.Answer.{answerOf, numberOf, flipsIn, encodeNumberOf}
@@ -100,19 +100,6 @@ flips-in (mended d n) = refl
 flips-in lost = refl
 flips-in tie = refl
 
-as-it-was : (w : ℕ) (v : codes.Verdict) → refusal 2 v ≢ 0 → repaired blockCode w v ≡ w
-as-it-was w (clean d) ne = absurd (ne refl)
-as-it-was w (mended d n) ne = absurd (ne refl)
-as-it-was w lost ne = refl
-as-it-was w tie ne = refl
-
--- lost is the one refusal, since tie never happens
-zero-or-two : (v : codes.Verdict) → v ≢ tie → (refusal 2 v ≡ 0) ⊎ (refusal 2 v ≡ 2)
-zero-or-two (clean d) ne = inl refl
-zero-or-two (mended d n) ne = inl refl
-zero-or-two lost ne = inr refl
-zero-or-two tie ne = absurd (ne refl)
-
 -- a block was judged, or its length is another
 abbrev Judged : List ℕ → List ℕ → Outcome → Type 0
 Judged ws exit r =
@@ -151,7 +138,7 @@ scrubbed-number ws exit n small x =
     (scrubbed-lt blockCode (promised .verdicts) (2 ^ 608) codeword-lt (joined 16 ws) (block-lt ws (n, small)))
 
 numbers : (ws exit : List ℕ) (r : Outcome) → length ws ≡ 38 → Judged ws exit r → (numberOf r ≡ 0) ⊎ (numberOf r ≡ 2)
-numbers ws exit r m (inl (n, a, x)) = go (zero-or-two v (promised .verdicts .no-tie (joined 16 ws)))
+numbers ws exit r m (inl (n, a, x)) = go (one-refusal 2 v (promised .verdicts .no-tie (joined 16 ws)))
   where
     v : codes.Verdict
     v = verdict blockCode (joined 16 ws)
@@ -185,7 +172,7 @@ is-codeword d exit l x =
 as-read : (ws exit : List ℕ) (r : Outcome) → Below 16 ws → Judged ws exit r → numberOf r ≢ 0 → exit ≡ ws
 as-read ws exit r small (inl (n, a, x)) ne =
     let v : codes.Verdict = verdict blockCode (joined 16 ws) in
-    x ∙ ap (fields 16 38) (as-it-was (joined 16 ws) v (λ z. ne (ap numberOf a ∙ number-of v ∙ z))) ∙ back ws (n, small)
+    x ∙ ap (fields 16 38) (as-it-was blockCode 2 (joined 16 ws) v (λ z. ne (ap numberOf a ∙ number-of v ∙ z))) ∙ back ws (n, small)
 as-read ws exit r small (inr (n, a, x)) ne = x
 
 changed : (ws exit : List ℕ) (r : Outcome) → Below 16 ws → Judged ws exit r → flipsIn r ≡ dist (joined 16 ws) (joined 16 exit)

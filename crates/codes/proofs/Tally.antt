@@ -1,5 +1,6 @@
 -- What specs/Tally.antt says of the tally holds: word by word, and what is scrubbed is clean or as lost as it was. Assumes nothing.
 use mathlib.Core.Path.{_≡_, refl, sym, ap, ap₂, _∙_, subst}
+use mathlib.Core.Logic.{_≢_, _⊎_, inl, inr}
 use mathlib.Core.List.{List, [], _∷_, _++_, map}
 use Prim.Native.Nat.{ℕ, suc, _+_, _*_, _≤_, _<_}
 use native.Mathlib.Nat.{mul-suc, add-comm, add-assoc, add-zero, zero-add, add-le-add}
@@ -14,11 +15,25 @@ use Rattle.codes.specs.Tally.{isClean, isMended, isLost, sumBy, TallyPro
 
 -- ---- one word
 
-one-kind : (v : Verdict) → isClean v + isMended v + isLost v ≡ 1
+pub one-kind : (v : Verdict) → isClean v + isMended v + isLost v ≡ 1
 one-kind (clean d) = refl
 one-kind (mended d n) = refl
 one-kind lost = refl
 one-kind tie = refl
+
+-- lost is the one refusal, where there is no tie, ..
+pub one-refusal : (k : ℕ) (v : Verdict) → v ≢ tie → (refusal k v ≡ 0) ⊎ (refusal k v ≡ k)
+one-refusal k (clean d) ne = inl refl
+one-refusal k (mended d n) ne = inl refl
+one-refusal k lost ne = inr refl
+one-refusal k tie ne = absurd (ne refl)
+
+-- .. and what is refused stays as it was
+pub as-it-was : (C : Code) (k w : ℕ) (v : Verdict) → refusal k v ≢ 0 → repaired C w v ≡ w
+as-it-was C k w (clean d) ne = absurd (ne refl)
+as-it-was C k w (mended d n) ne = absurd (ne refl)
+as-it-was C k w lost ne = refl
+as-it-was C k w tie ne = refl
 
 -- one that counts as clean is
 pub clean-of : (v : Verdict) → isClean v ≡ 1 → (d : ℕ) × (v ≡ clean d)

@@ -1,6 +1,6 @@
 -- What specs/Promises.antt says of the grid's calls holds. Assumes nothing.
 use mathlib.Core.Path.{_≡_, refl, sym, ap, _∙_, subst}
-use mathlib.Core.Logic.{_≢_, _⊎_, inl, inr}
+use mathlib.Core.Logic.{_≢_, _⊎_}
 use mathlib.Core.List.{List}
 use Prim.Native.Nat.{ℕ, _^_, _≤_, _<_}
 use lib.Bits.{bitXor, xor-lt}
@@ -12,7 +12,7 @@ use Rattle.words.proofs.Fields.{joined-lt, joined-fields, fields-joined}
 use Rattle.codes.specs.Verdict.{Verdict, clean, mended, lost, tie, IsVerdict, answered, verdict, flipsOf, refusal, repaired, scrubbed}
 use Rattle.codes.specs.Promises.{Demand3}
 use Rattle.codes.proofs.Promises.{answered-repaired}
-use Rattle.codes.proofs.Tally.{scrubbed-lt}
+use Rattle.codes.proofs.Tally.{one-refusal, as-it-was, scrubbed-lt}
 use Rattle.grid_code.specs.Code.{codeword, gridCode}
 use Rattle.grid.specs.Answer.{means, numberOf}
 use Rattle.grid.specs.Calls.{Decoded}
@@ -25,23 +25,13 @@ use Rattle.grid_code.proofs.Distance.{codeword-lt}
 
 module _ (rows : List ℕ) (r : Answer) (h : Decoded rows r) where
   numbers : (numberOf (r .verdict) ≡ 0) ⊎ (numberOf (r .verdict) ≡ 1)
-  numbers = go (means (r .verdict)) (h .answer)
-    where
-      go : (v : Verdict) → v ≡ verdict gridCode (joined 8 rows) → (refusal 1 v ≡ 0) ⊎ (refusal 1 v ≡ 1)
-      go (clean d) e = inl refl
-      go (mended d n) e = inl refl
-      go lost e = inr refl
-      go tie e = absurd (promised .verdicts .no-tie (joined 8 rows) (sym e))
+  numbers = one-refusal 1 (means (r .verdict)) (λ e. promised .verdicts .no-tie (joined 8 rows) (sym (h .answer) ∙ e))
 
   as-read : length rows ≡ 8 → ((i : ℕ) → getD rows i 0 < 2 ^ 8) → numberOf (r .verdict) ≢ 0 → r .grid .rows ≡ rows
-  as-read n small refused = h .repaired ∙ go (means (r .verdict)) (h .answer) refused ∙ fields-joined 8 8 rows n small
-    where
-      go : (v : Verdict) → v ≡ verdict gridCode (joined 8 rows) → refusal 1 v ≢ 0
-          → fields 8 8 (scrubbed gridCode (joined 8 rows)) ≡ fields 8 8 (joined 8 rows)
-      go (clean d) e x = absurd (x refl)
-      go (mended d n) e x = absurd (x refl)
-      go lost e x = ap (λ v. fields 8 8 (repaired gridCode (joined 8 rows) v)) (sym e)
-      go tie e x = ap (λ v. fields 8 8 (repaired gridCode (joined 8 rows) v)) (sym e)
+  as-read n small refused =
+      h .repaired
+      ∙ ap (fields 8 8) (as-it-was gridCode 1 (joined 8 rows) (verdict gridCode (joined 8 rows)) (λ z. refused (ap (refusal 1) (h .answer) ∙ z)))
+      ∙ fields-joined 8 8 rows n small
 
   changed : length rows ≡ 8 → ((i : ℕ) → getD rows i 0 < 2 ^ 8)
       → flipsOf (means (r .verdict)) ≡ dist (joined 8 rows) (joined 8 (r .grid .rows))

@@ -10,10 +10,10 @@ use borrow.Author.Tests.{eqb-true}
 use Rattle.words.specs.Fields.{fields, joined}
 use Rattle.words.proofs.Fields.{joined-fields}
 use Rattle.words.proofs.Lists.{partly, partly-at, partly-step}
-use Rattle.codes.specs.Verdict.{Verdict, clean, mended, lost, tie, flipsOf, verdict, repaired, scrubbed}
+use Rattle.codes.specs.Verdict.{Verdict, clean, mended, lost, flipsOf, verdict, repaired, scrubbed}
 use Rattle.codes.specs.Tally.{isClean, isMended, isLost}
 use Rattle.codes.proofs.Promises.{clean-word}
-use Rattle.codes.proofs.Tally.{clean-of, sum-bound, sum-step, few-flips}
+use Rattle.codes.proofs.Tally.{one-kind, clean-of, sum-bound, sum-step, few-flips}
 use Rattle.grid.specs.Calls.{Judged}
 use Rattle.grid_code.specs.Code.{gridCode}
 use Rattle.grid_code.proofs.Promises as grid
@@ -39,14 +39,6 @@ decoded-clean w rows l e j =
             record { grids = s .grids; clean = s .clean; mended = s .mended; lost = s .lost; flips = s .flips },
       ),
     )
-
--- ---- the bounds
-
-is-one : (v : Verdict) → (isClean v ≤ 1) × (isMended v ≤ 1) × (isLost v ≤ 1)
-is-one (clean d) = (omega arith, omega arith, omega arith)
-is-one (mended d n) = (omega arith, omega arith, omega arith)
-is-one lost = (omega arith, omega arith, omega arith)
-is-one tie = (omega arith, omega arith, omega arith)
 
 -- ---- a turn
 
@@ -80,9 +72,9 @@ module _ (page now : List ℕ) (i : ℕ) (t : Tally) (inside : i < length page) 
       let n : length (take i page) ≡ i = length-take-le i page (omega arith) in
       record {
         grids = omega arith;
-        clean = omega (arith, is-one u, sum-bound gridCode isClean 1 (λ w. is-one (verdict gridCode w) .0) (take i page));
-        mended = omega (arith, is-one u, sum-bound gridCode isMended 1 (λ w. is-one (verdict gridCode w) .1) (take i page));
-        lost = omega (arith, is-one u, sum-bound gridCode isLost 1 (λ w. is-one (verdict gridCode w) .2) (take i page));
+        clean = omega (arith, one-kind u, sum-bound gridCode isClean 1 (λ w. omega (arith, one-kind (verdict gridCode w))) (take i page));
+        mended = omega (arith, one-kind u, sum-bound gridCode isMended 1 (λ w. omega (arith, one-kind (verdict gridCode w))) (take i page));
+        lost = omega (arith, one-kind u, sum-bound gridCode isLost 1 (λ w. omega (arith, one-kind (verdict gridCode w))) (take i page));
         flips =
             omega (
               arith,

@@ -17,6 +17,7 @@ use Rattle.image.specs.Card.{Part, Card, gridsIn, Found, sound, broken, walk, n
 use Rattle.image.specs.Calls.{byFound, counts, Checked, numberOf, placeOf}
 use Rattle.image.proofs.Walking.{card-titled}
 use Rattle.values.specs.Steps.{Walks}
+use Rattle.values.proofs.Walks.{never}
 
 -- ---- by the answer of the check
 
@@ -68,30 +69,26 @@ pub record Inside (s : List ℕ) (c : Card) : Type 0 where
   pub title-is : c .title ≡ value s
   pub found : walk 16 (3 + length-is) (drop (3 + length-is) s) ≡ sound (c .parts)
 
-isSound : Found Card → ℕ
-isSound (sound c) = 1
-isSound (broken at) = 0
-
 cardIn : Card → Found Card → Card
 cardIn d (sound c) = c
 cardIn d (broken at) = d
 
 pub inside : (s : List ℕ) (c : Card) → cardOf s ≡ sound c → Inside s c
-unfolding cardOf isSound cardIn
-inside s c e = go (fieldOf s) refl (e)
+unfolding cardOf cardIn
+inside s c e = go (fieldOf s) refl e
   where
     behind : (n : ℕ) → fieldOf s ≡ Title n → (x : Found (List Part)) → walk 16 (3 + n) (drop (3 + n) s) ≡ x → named (value s) x ≡ sound c → Inside s c
     behind n f (sound ps) w e =
         let same : record { title = value s; parts = ps } ≡ c = ap (cardIn c) e in
         record { length-is = n; titled-so = f; title-is = sym (ap (λ c. c .title) same); found = w ∙ ap (λ (c : Card). sound (c .parts)) same }
-    behind n f (broken k) w e = absurd (omega (arith, ap isSound e))
+    behind n f (broken k) w e = never e
 
     go : (f : Field) → fieldOf s ≡ f → cardOf s ≡ sound c → Inside s c
     go (Title n) f e = behind n f (walk 16 (3 + n) (drop (3 + n) s)) refl (sym (card-titled s n f) ∙ e)
-    go (Grids n) f e = absurd (omega (arith, ap isSound (sym (ap (titled s) f) ∙ e)))
-    go Block f e = absurd (omega (arith, ap isSound (sym (ap (titled s) f) ∙ e)))
-    go End f e = absurd (omega (arith, ap isSound (sym (ap (titled s) f) ∙ e)))
-    go Fails f e = absurd (omega (arith, ap isSound (sym (ap (titled s) f) ∙ e)))
+    go (Grids n) f e = never (sym (ap (titled s) f) ∙ e)
+    go Block f e = never (sym (ap (titled s) f) ∙ e)
+    go End f e = never (sym (ap (titled s) f) ∙ e)
+    go Fails f e = never (sym (ap (titled s) f) ∙ e)
 
 module _ (s : List ℕ) (c : Card) (i : Inside s c) where
   pub stands : Stands s 1 (i .length-is)

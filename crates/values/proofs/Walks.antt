@@ -26,15 +26,15 @@ abbrev pub less : ℕ → ℕ
 less zero = zero
 less (suc n) = n
 
-isSound : Found (List Part) → ℕ
-isSound (sound ps) = 1
+isSound : {A : Type 0} → Found A → ℕ
+isSound (sound a) = 1
 isSound (broken at) = 0
 
 partsOf : Found (List Part) → List Part
 partsOf (sound ps) = ps
 partsOf (broken at) = []
 
-never : {X : Type 0} {at : ℕ} {ps : List Part} → broken at ≡ sound ps → X
+pub never : {A X : Type 0} {at : ℕ} {a : A} → broken at ≡ sound a → X
 unfolding isSound
 never e = absurd (omega (arith, ap isSound e))
 
