@@ -1,6 +1,6 @@
 -- The card that was scrubbed: it can stand in an image, of the same length; it has as many grids and blocks; and a second scrub changes
 -- nothing. Assumes nothing.
-use mathlib.Core.Path.{_≡_, refl, sym, ap, ap₂, _∙_}
+use mathlib.Core.Path.{_≡_, refl, sym, ap, ap₂, _∙_, subst}
 use mathlib.Core.List.{List, [], _∷_, _++_, map, map-append}
 use Prim.Native.Nat.{ℕ, _+_, _*_, _^_}
 use native.Mathlib.Omega.{arith}
@@ -17,7 +17,9 @@ use Rattle.grid_code.specs.Code.{gridCode}
 use Rattle.grid_code.proofs.Promises as grid
 use Rattle.block_code.specs.Code.{blockCode}
 use Rattle.block_code.proofs.Promises as blocks
-use Rattle.page.proofs.Promises.{laws}
+use Rattle.page.specs.Calls.{tallyOf}
+use Rattle.page.specs.Promises as page
+use Rattle.page.proofs.Promises.{laws, tally-again}
 use Rattle.image.specs.Card.{Part, grids, block, Card, gridsIn, blocksIn, head, partBytes, partsBytes, frontOf, imageOf}
 use Rattle.image.specs.Promises.{ProperPart, AllProper, Proper}
 use Rattle.card_scrub.specs.Calls.{scrubbedPart, scrubbedCard, talliesOf}
@@ -47,19 +49,16 @@ same-frame c = record {
 -- what is counted the second time
 pub second : (ps : List Part) → Again (talliesOf ps) (talliesOf (map scrubbedPart ps))
 second ps =
-    let gs = gridsIn ps in
     let bs = blocksIn ps in
     record {
-      grids-many = ap length (grids-scrubbed ps) ∙ length-map gs (scrubbed gridCode);
-      grids-clean = ap (sumBy gridCode isClean) (grids-scrubbed ps) ∙ laws .again-clean gs;
-      grids-mended = ap (sumBy gridCode isMended) (grids-scrubbed ps) ∙ laws .again-mended gs;
-      grids-lost = ap (sumBy gridCode isLost) (grids-scrubbed ps) ∙ laws .again-lost gs;
-      grids-flips = ap (sumBy gridCode flipsOf) (grids-scrubbed ps) ∙ laws .again-flips gs;
-      blocks-many = ap length (blocks-scrubbed ps) ∙ length-map bs (scrubbed blockCode);
-      blocks-clean = ap (sumBy blockCode isClean) (blocks-scrubbed ps) ∙ block-laws .again-clean bs;
-      blocks-mended = ap (sumBy blockCode isMended) (blocks-scrubbed ps) ∙ block-laws .again-mended bs;
-      blocks-lost = ap (sumBy blockCode isLost) (blocks-scrubbed ps) ∙ block-laws .again-lost bs;
-      blocks-flips = ap (sumBy blockCode flipsOf) (blocks-scrubbed ps) ∙ block-laws .again-flips bs;
+      grids = subst (λ ws. page.Again (tallyOf (gridsIn ps)) (tallyOf ws)) (sym (grids-scrubbed ps)) (tally-again (gridsIn ps));
+      blocks = record {
+        blocks = ap length (blocks-scrubbed ps) ∙ length-map bs (scrubbed blockCode);
+        clean-now = ap (sumBy blockCode isClean) (blocks-scrubbed ps) ∙ block-laws .again-clean bs;
+        none-mended = ap (sumBy blockCode isMended) (blocks-scrubbed ps) ∙ block-laws .again-mended bs;
+        same-lost = ap (sumBy blockCode isLost) (blocks-scrubbed ps) ∙ block-laws .again-lost bs;
+        no-flips = ap (sumBy blockCode flipsOf) (blocks-scrubbed ps) ∙ block-laws .again-flips bs;
+      };
     }
 
 -- ---- it can stand in an image

@@ -10,11 +10,13 @@ use Rattle.words.specs.Word.{dist}
 use Rattle.words.specs.Fields.{Below}
 use Rattle.words.specs.Bytes.{laid}
 use Rattle.grid_code.specs.Code.{codeword}
+use Rattle.page.specs.Promises as page
 use Rattle.fields.specs.Fields.{firstBad}
 use Rattle.image.specs.Card.{Card, sound, broken, gridsIn, blocksIn, cardOf, imageOf}
 use Rattle.image.specs.Calls.{Checked}
 use Rattle.image.specs.declared.Outcome.{Outcome}
 use Rattle.image.specs.declared.Outcome.the-variants.{Sound}
+use Rattle.value_scrub.specs.declared.Blocks.{Blocks}
 use Rattle.card_scrub.specs.declared.Tallies.{Tallies}
 use Rattle.card_scrub.specs.declared.ScrubAnswer.{ScrubAnswer}
 use Rattle.card_scrub.specs.declared.ScrubAnswer.the-variants.{Done}
@@ -36,18 +38,18 @@ pub record SameFrame (c d : Card) : Type 0 where
   pub grids-many : length (gridsIn (d .parts)) ≡ length (gridsIn (c .parts))
   pub blocks-many : length (blocksIn (d .parts)) ≡ length (blocksIn (c .parts))
 
--- what a second scrub finds
+-- what a second scrub finds: of blocks, ..
+pub record AgainBlocks (first second : Blocks) : Type 0 where
+  pub blocks : second .blocks ≡ first .blocks
+  pub clean-now : second .clean ≡ first .clean + first .mended
+  pub none-mended : second .mended ≡ 0
+  pub same-lost : second .lost ≡ first .lost
+  pub no-flips : second .flips ≡ 0
+
+-- .. and of both
 pub record Again (first second : Tallies) : Type 0 where
-  pub grids-many : second .grids .grids ≡ first .grids .grids
-  pub grids-clean : second .grids .clean ≡ first .grids .clean + first .grids .mended
-  pub grids-mended : second .grids .mended ≡ 0
-  pub grids-lost : second .grids .lost ≡ first .grids .lost
-  pub grids-flips : second .grids .flips ≡ 0
-  pub blocks-many : second .blocks .blocks ≡ first .blocks .blocks
-  pub blocks-clean : second .blocks .clean ≡ first .blocks .clean + first .blocks .mended
-  pub blocks-mended : second .blocks .mended ≡ 0
-  pub blocks-lost : second .blocks .lost ≡ first .blocks .lost
-  pub blocks-flips : second .blocks .flips ≡ 0
+  pub grids : page.Again (first .grids) (second .grids)
+  pub blocks : AgainBlocks (first .blocks) (second .blocks)
 
 -- What the scrub promises.
 pub record ScrubPromises : Type 0 where

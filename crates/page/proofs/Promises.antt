@@ -68,22 +68,24 @@ length-kept page exit r s = go (decLe (length page) 512)
 
 -- ---- the second scrub
 
+pub tally-again : (ws : List ℕ) → Again (tallyOf ws) (tallyOf (map (scrubbed gridCode) ws))
+tally-again ws = record {
+  grids = length-map ws (scrubbed gridCode);
+  clean-now = laws .again-clean ws;
+  none-mended = laws .again-mended ws;
+  same-lost = laws .again-lost ws;
+  no-flips = laws .again-flips ws;
+}
+
 again : (page once twice : List ℕ) (t : Tally) (r : Outcome) → Scrubbed page (Done t) once → Scrubbed once r twice
-    → (u : Tally) × (r ≡ Done u) × Again t u once twice
+    → (u : Tally) × (r ≡ Done u) × Again t u × (twice ≡ once)
 again page once twice t r p q =
     let (few, s, a) = counted page once t p in
-    let (v, b) = done (subst (λ (n : ℕ). n ≤ 512) (sym (length-kept page once (Done t) p)) few) q in
-    let w : tallyOf once ≡ tallyOf (map (scrubbed gridCode) page) = ap tallyOf a in (
+    let (v, b) = done (subst (λ (n : ℕ). n ≤ 512) (sym (length-kept page once (Done t) p)) few) q in (
       tallyOf once,
       v,
-      record {
-        grids = ap (λ x. x .grids) w ∙ length-map page (scrubbed gridCode) ∙ sym (ap (λ x. x .grids) s);
-        clean-now = ap (λ x. x .clean) w ∙ laws .again-clean page ∙ sym (ap (λ x. x .clean + x .mended) s);
-        none-mended = ap (λ x. x .mended) w ∙ laws .again-mended page;
-        same-lost = ap (λ x. x .lost) w ∙ laws .again-lost page ∙ sym (ap (λ x. x .lost) s);
-        no-flips = ap (λ x. x .flips) w ∙ laws .again-flips page;
-        unchanged = b ∙ ap (map (scrubbed gridCode)) a ∙ map-twice (scrubbed gridCode) (laws .again) page ∙ sym a;
-      },
+      subst (λ u. Again t u) (ap tallyOf (sym a)) (subst (λ t. Again t (tallyOf (map (scrubbed gridCode) page))) (sym s) (tally-again page)),
+      b ∙ ap (map (scrubbed gridCode)) a ∙ map-twice (scrubbed gridCode) (laws .again) page ∙ sym a,
     )
 
 sum : (page exit : List ℕ) (t : Tally) → Scrubbed page (Done t) exit → t .grids ≡ t .clean + t .mended + t .lost

@@ -10,14 +10,13 @@ use Rattle.page.specs.declared.Outcome.{Outcome}
 use Rattle.page.specs.declared.Outcome.the-variants.{Done}
 use Rattle.page.specs.Calls.{Scrubbed, numberOf}
 
--- what a second scrub finds, and leaves
-pub record Again (first second : Tally) (page exit : List ℕ) : Type 0 where
+-- what a second scrub finds
+pub record Again (first second : Tally) : Type 0 where
   pub grids : second .grids ≡ first .grids
   pub clean-now : second .clean ≡ first .clean + first .mended
   pub none-mended : second .mended ≡ 0
   pub same-lost : second .lost ≡ first .lost
   pub no-flips : second .flips ≡ 0
-  pub unchanged : exit ≡ page
 
 -- What the scrub promises, whatever was read.
 pub record PagePromises : Type 0 where
@@ -36,7 +35,7 @@ pub record PagePromises : Type 0 where
   pub sum : (page exit : List ℕ) (t : Tally) → Scrubbed page (Done t) exit → t .grids ≡ t .clean + t .mended + t .lost
   -- A second scrub finds clean + mended clean, the same lost, 0 mended, 0 flips, and changes nothing.
   pub again : (page once twice : List ℕ) (t : Tally) (r : Outcome) → Scrubbed page (Done t) once → Scrubbed once r twice
-      → (u : Tally) × (r ≡ Done u) × Again t u once twice
+      → (u : Tally) × (r ≡ Done u) × Again t u × (twice ≡ once)
   -- An empty page gives five zeros.
   pub empty : (exit : List ℕ) (r : Outcome) → Scrubbed [] r exit
       → (r ≡ Done (record { grids = 0; clean = 0; mended = 0; lost = 0; flips = 0 })) × (exit ≡ [])
