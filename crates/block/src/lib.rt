@@ -14,19 +14,16 @@
 //
 // The scrubber guesses a flipped place, and verifies it by the checks that are left (crate block_flips).
 //
-// The crate block_code has the parities and what is proved of the code, specs/Calls.antt what each call
-// promises, and specs/Promises.antt what is proved of the calls.
+// The crate block_code has the parities and what is proved of the code, block_words what writes, reads and flips
+// the words. specs/Calls.antt has what each call promises, and specs/Promises.antt what is proved of the calls.
 ghost use mathlib.Core.Path.{_≡_};
 ghost use mathlib.Core.Logic.{_≢_};
-ghost use Prim.Native.Nat.{_^_, _<_};
-ghost use lib.Bits.{bitXor};
 ghost use lib.ListN.{length};
-ghost use lib.Seq.{sets, paste};
 ghost use Rattle.words.specs.Fields.{joined};
 ghost use Rattle.codes.specs.Promises.{States};
 ghost use Rattle.block_code.specs.Code.{blockCode};
 ghost use Rattle.block.specs.Calls.{Encoded, Scrubbed};
-ghost use Rattle.block_code.specs.Checks.{noChecks, heldBy, checkWords, syndromeOf};
+ghost use Rattle.block_code.specs.Checks.{noChecks, syndromeOf};
 use block_code::Checks;
 use block_flips::Flips;
 
@@ -53,73 +50,6 @@ const VALUES: usize = 32;
 
 const WORDS: usize = 38;
 
-// The 32 data words, to the front. Four are read before they are written: with no store between them the
-// four reads are one load, and the four stores are one.
-fn copy(values: &[u16], words: &mut [u16])
-    requires { ⌜ (length (now values) ≡ 32) × (length (now words) ≡ 38) ⌝ }
-    ensures { λ r. ⌜ now (words .exit) ≡ paste (now (words .entry)) 0 (now (values .entry)) 32 ⌝ }
-{
-    let mut i: usize = 0;
-    while i < VALUES {
-        let a = values[i];
-        let b = values[i + 1];
-        let c = values[i + 2];
-        let d = values[i + 3];
-        words[i] = a;
-        words[i + 1] = b;
-        words[i + 2] = c;
-        words[i + 3] = d;
-        i += 4;
-    }
-}
-
-// The checks, into the last six words.
-fn hold(words: &mut [u16], k: Checks)
-    requires { ⌜ (length (now words) ≡ 38) × (k .diagonals < 2 ^ 48) ⌝ }
-    ensures { λ r. ⌜ now (words .exit) ≡ sets (now (words .entry)) 32 (checkWords k) ⌝ }
-{
-    let rows = k.rows;
-    let columns = k.columns;
-    let diagonals = k.diagonals;
-    words[32] = (rows & 0xFFFF) as u16;
-    words[33] = (rows >> 16) as u16;
-    words[34] = columns;
-    words[35] = (diagonals & 0xFFFF) as u16;
-    words[36] = ((diagonals >> 16) & 0xFFFF) as u16;
-    words[37] = (diagonals >> 32) as u16;
-}
-
-// The checks that the last six words hold.
-fn held(words: &[u16]) -> Checks
-    requires { ⌜ length (now words) ≡ 38 ⌝ }
-    ensures { λ r. ⌜ r ≡ heldBy (joined 16 (now (words .entry))) ⌝ }
-{
-    let rows = ((words[33] as u32) << 16) | (words[32] as u32);
-    let upper = ((words[37] as u64) << 16) | (words[36] as u64);
-    Checks {
-        rows,
-        columns: words[34],
-        diagonals: (upper << 16) | (words[35] as u64),
-    }
-}
-
-// Where what the data says and what the block holds differ.
-fn syndrome(words: &[u16]) -> Checks
-    requires { ⌜ length (now words) ≡ 38 ⌝ }
-    ensures { λ r. ⌜ r ≡ syndromeOf (joined 16 (now (words .entry))) ⌝ }
-{
-    block_code::mix(block_sums::said(words), held(words))
-}
-
-// The place flipped.
-fn flip(words: &mut [u16], place: usize)
-    requires { ⌜ (length (now words) ≡ 38) × (place < 608) ⌝ }
-    ensures { λ r. ⌜ joined 16 (now (words .exit)) ≡ bitXor (joined 16 (now (words .entry))) (2 ^ place) ⌝ }
-{
-    let i = place / 16;
-    words[i] = words[i] ^ (1u16 << (place % 16));
-}
-
 // The flips that explain the syndrome s undone, where there are not more than two.
 fn mend(words: &mut [u16], s: Checks) -> Outcome
     requires { ⌜ (length (now words) ≡ 38) × (s ≡ syndromeOf (joined 16 (now words))) × (s ≢ noChecks) ⌝ }
@@ -127,12 +57,12 @@ fn mend(words: &mut [u16], s: Checks) -> Outcome
 {
     match block_flips::nearest(s) {
         Flips::One(p) => {
-            flip(words, p);
+            block_words::flip(words, p);
             Outcome::Mended { flips: 1 }
         }
         Flips::Two(p, q) => {
-            flip(words, p);
-            flip(words, q);
+            block_words::flip(words, p);
+            block_words::flip(words, q);
             Outcome::Mended { flips: 2 }
         }
         Flips::More => Outcome::Lost,
@@ -158,8 +88,7 @@ impl Block {
         if words.len() != WORDS {
             return Written::Length;
         }
-        copy(values, words);
-        hold(words, block_sums::said(values));
+        block_words::write(values, words);
         Written::Done
     }
 
@@ -171,7 +100,7 @@ impl Block {
         if words.len() != WORDS {
             return Outcome::Length;
         }
-        let s = syndrome(words);
+        let s = block_words::syndrome(words);
         if block_code::is_none(s) {
             return Outcome::Clean;
         }

@@ -9,24 +9,6 @@ use borrow.Author.Needs.{needs}
 use Rattle.block.proofs.mend.Statement.{statement}
 use Rattle.block.proofs.mend.Tie as tie
 
-flip-requires : tie.Need-flip-requires
-flip-requires c κs =
-    let known = c .before .before .before .before .before in
-    let found = subst (Found (known .before .args .s)) (c .before .before .p .given .1) (c .before .before .before .before .nearest .ensures) in
-    (known .before .pre .0, found .0)
-
-flip-requires-2 : tie.Need-flip-requires-2
-flip-requires-2 c κs =
-    let known = c .before .before .before .before .before in
-    let found = subst (Found (known .before .args .s)) (c .before .before .p2 .given .1) (c .before .before .before .before .nearest .ensures) in
-    (known .before .pre .0, found .0)
-
-flip-requires-3 : tie.Need-flip-requires-3
-flip-requires-3 c κs =
-    let at = c .before .before .before .before .before .before in
-    let found = subst (Found (at .before .before .before .before .args .s)) (at .p2 .given .1) (at .before .before .nearest .ensures) in
-    (omega arith, omega (arith, found .0, found .1))
-
 returns : tie.Need-returns
 returns c =
     let at = c .before .before .before .before .before in
@@ -34,7 +16,7 @@ returns c =
     let s = known .before in
     let found = subst (Found (s .args .s)) (at .p .given .1) (at .before .before .nearest .ensures) in
     mends-one (s .args .words .now) (s .pre .0, λ i. omega (arith, known .slice-known .given i)) _ (c .before .before .flip .last .0) (found .0)
-    (found .1 ∙ s .pre .1) (omega arith, λ i. omega (arith, c .slice-known2 .given i)) (c .before .before .flip .ensures)
+    (found .1 ∙ s .pre .1) (omega arith, λ i. omega (arith, c .slice-known2 .given i)) (c .before .before .flip .ensures .0 (omega (arith, found .0)))
 
 returns-2 : tie.Need-returns-2
 returns-2 c =
@@ -42,10 +24,10 @@ returns-2 c =
     let known = at .before .before .before in
     let s = known .before in
     let found = subst (Found (s .args .s)) (at .p2 .given .1) (at .before .before .nearest .ensures) in
-    let once = c .before .before .before .before .before .before .flip2 .ensures in
+    let once = c .before .before .before .before .before .before .flip2 .ensures .0 (omega (arith, found .0)) in
     mends-two (s .args .words .now) (s .pre .0, λ i. omega (arith, known .slice-known .given i)) _ _ (c .before .before .flip3 .last .0) (found .0)
     (found .1) (found .2 ∙ s .pre .1) (λ e. s .pre .2 (s .pre .1 ∙ e)) (omega arith, λ i. omega (arith, c .slice-known4 .given i))
-    (c .before .before .flip3 .ensures ∙ ap (λ (x : ℕ). bitXor x (2 ^ at .p2 .given .0 .1 .0)) once)
+    (c .before .before .flip3 .ensures .0 (omega (arith, found .1)) ∙ ap (λ (x : ℕ). bitXor x (2 ^ at .p2 .given .0 .1 .0)) once)
 
 returns-3 : tie.Need-returns-3
 returns-3 c =
@@ -58,5 +40,5 @@ returns-3 c =
 pub mend-spec : {M : Type 1} → statement M
 mend-spec =
     tie.close
-    (tie.spec (λ c κs. search needs) (λ c. search needs) flip-requires (λ c. search needs) flip-requires-2 flip-requires-3
+    (tie.spec (λ c κs. search needs) (λ c. search needs) (λ c κs. search needs) (λ c. search needs) (λ c κs. search needs) (λ c κs. search needs)
     (λ c. search needs) (λ c. search needs) returns (λ c. search needs) returns-2 returns-3)

@@ -17,12 +17,12 @@ returns-2 c =
     let ws : List ℕ = c .before .before .before .before .before .before .args .words .now in
     let s = c .before .before .syndrome in
     is-clean ws (omega arith, λ i. omega (arith, c .before .before .before .before .before .slice-known .given i))
-    (sym (s .ensures) ∙ subst (IsNone (s .result)) (c .if2 .taken) (c .before .is-none .ensures) .yes refl)
+    (sym (s .ensures .0 (omega arith)) ∙ subst (IsNone (s .result)) (c .if2 .taken) (c .before .is-none .ensures) .yes refl)
 
 mend-requires : tie.Need-mend-requires
 mend-requires c κs =
     let s = c .before .before .before .syndrome in
-    (omega arith, s .ensures, subst (IsNone (s .result)) (c .before .if2 .left) (c .before .before .is-none .ensures) .no refl)
+    (omega arith, s .ensures .0 (omega arith), subst (IsNone (s .result)) (c .before .if2 .left) (c .before .before .is-none .ensures) .no refl)
 
 pub scrub-spec : {M : Type 1} → statement M
 scrub-spec =

@@ -1,4 +1,4 @@
--- `block::copy` meets its contract: four words a turn, each by the law of a copy. Assumes nothing.
+-- `block_words::copy` meets its contract: four words a turn, each by the law of a copy. Assumes nothing.
 use mathlib.Core.Path.{_≡_, refl, sym, ap, _∙_}
 use mathlib.Core.List.{List}
 use Prim.Native.Nat.{ℕ, suc, _+_, _-_, _%_, _≤_, _<_}
@@ -7,16 +7,25 @@ use native.Mathlib.Omega.{arith}
 use lib.ListN.{length, getD, set, length-set}
 use lib.Seq.{paste, paste-suc}
 use borrow.Author.Needs.{needs}
-use Rattle.block.proofs.copy.Statement.{statement}
-use Rattle.block.proofs.copy.Tie as tie
+use Rattle.block_words.proofs.copy.Statement.{statement}
+use Rattle.block_words.proofs.copy.Tie as tie
 
--- one word more
-more : (room from : List ℕ) → 32 ≤ length room → 32 ≤ length from → (ws : List ℕ) (i n : ℕ) → suc i ≡ n → i < 32 → ws ≡ paste room 0 from i
-    → set ws i (getD from i 0) ≡ paste room 0 from n
-more room from p q ws i n e l h =
-    ap (λ (ws : List ℕ). set ws i (getD from i 0)) h
-    ∙ ap (λ (k : ℕ). set (paste room 0 from i) k (getD from i 0)) (sym (zero-add i))
-    ∙ paste-suc room 0 from i 0 (omega arith) (omega arith) ∙ ap (paste room 0 from) e
+module _ (room from : List ℕ) (p : length room ≡ 38) (q : length from ≡ 32) where
+  -- one word more
+  one : (ws : List ℕ) (i n : ℕ) → suc i ≡ n → i < 32 → ws ≡ paste room 0 from i → set ws i (getD from i 0) ≡ paste room 0 from n
+  one ws i n e l h =
+      ap (λ (ws : List ℕ). set ws i (getD from i 0)) h
+      ∙ ap (λ (k : ℕ). set (paste room 0 from i) k (getD from i 0)) (sym (zero-add i))
+      ∙ paste-suc room 0 from i 0 (omega arith) (omega arith) ∙ ap (paste room 0 from) e
+
+  -- four, which all fit where one does
+  four : (ws : List ℕ) (i : ℕ) → i < 32 → i % 4 ≡ 0 → ws ≡ paste room 0 from i
+      → set (set (set (set ws i (getD from i 0)) (i + 1) (getD from (i + 1) 0)) (i + 2) (getD from (i + 2) 0)) (i + 3) (getD from (i + 3) 0)
+      ≡ paste room 0 from (i + 4)
+  four ws i l m h =
+      one _ (i + 3) (i + 4) (omega arith) (omega arith)
+      (one _ (i + 2) (i + 3) (omega arith) (omega arith)
+      (one _ (i + 1) (i + 2) (omega arith) (omega arith) (one ws i (i + 1) (omega arith) l h)))
 
 abbrev Inv-loop : tie.InvT-loop
 Inv-loop values words₀ i₀ words i = (i ≤ 32) × (i % 4 ≡ 0) × (words ≡ paste words₀ 0 values i) × (length words ≡ 38)
@@ -43,14 +52,10 @@ loop-again : tie.Need-loop-again Inv-loop μ-loop
 loop-again c =
     let l = c .before .before .before .before .before .loop in
     let from : List ℕ = c .before .before .before .before .before .before .args .values .now in
-    let room : List ℕ = c .before .before .before .before .before .before .args .words .now in
-    let copied = more room from (omega arith) (omega arith) in (
+    let room : List ℕ = c .before .before .before .before .before .before .args .words .now in (
       omega arith,
       omega arith,
-      copied _ (l .i + 3) (l .i + 4) (omega arith) (omega arith)
-          (copied _ (l .i + 2) (l .i + 3) (omega arith) (omega arith)
-          (copied _ (l .i + 1) (l .i + 2) (omega arith) (omega arith)
-          (copied (l .words) (l .i) (l .i + 1) (omega arith) (omega arith) (l .inv .2)))),
+      four room from (omega arith) (omega arith) (l .words) (l .i) (omega arith) (l .inv .1) (l .inv .2),
       simp length-set (l .inv .3),
     )
 

@@ -1,4 +1,4 @@
--- `block::hold` meets its contract: six words are stored. Assumes nothing.
+-- `block_words::hold` meets its contract: six words are stored. Assumes nothing.
 use mathlib.Core.List.{[], _∷_}
 use Prim.Native.Nat.{_/_, _^_}
 use native.Mathlib.Omega.{arith}
@@ -6,8 +6,8 @@ use lib.Bits.{and-mask, mask-lt}
 use lib.ListN.{length-set}
 use lib.Seq.{sets}
 use borrow.Author.Needs.{needs}
-use Rattle.block.proofs.hold.Statement.{statement}
-use Rattle.block.proofs.hold.Tie as tie
+use Rattle.block_words.proofs.hold.Statement.{statement}
+use Rattle.block_words.proofs.hold.Tie as tie
 
 cast-words : tie.Need-cast-words
 cast-words c = record { fits = mask-lt (c .args .k .rows) 16 }
