@@ -23,16 +23,16 @@ use Rattle.codes.specs.Verdict.{Verdict, clean, mended, lost, answered, off, ve
 use Rattle.codes.proofs.Promises.{found, none-near}
 use Rattle.block_code.specs.Code.{codeword, blockCode}
 use Rattle.block_code.specs.Equations.{Codeword}
-use Rattle.block.specs.Answer.{answerOf, encodeNumberOf}
-use Rattle.block.specs.Calls.{allowed, Encoded, Scrubbed}
 use Rattle.block_code.specs.Checks.{noChecks, mixed, syndromeOf, ofPlace}
-use Rattle.block_flips.specs.Steps.{Unexplained}
-use Rattle.block.specs.declared.Outcome.the-variants.{Clean, Mended, Lost, Length}
-use Rattle.block.specs.declared.Written.the-variants.{Done, Length as OtherLength}
 use Rattle.block_code.proofs.Distance.{distance}
 use Rattle.block_code.proofs.Equations.{meets}
 use Rattle.block_code.proofs.Mixing.{mixed-self, mixed-none}
 use Rattle.block_code.proofs.Syndromes.{syndrome-sum, syndrome-zero, syndrome-codeword, codeword-of, codeword-lt}
+use Rattle.block_flips.specs.Steps.{Unexplained}
+use Rattle.block.specs.Answer.{answerOf, encodeNumberOf}
+use Rattle.block.specs.Calls.{allowed, Encoded, Scrubbed}
+use Rattle.block.specs.declared.Outcome.the-variants.{Clean, Mended, Lost, Length}
+use Rattle.block.specs.declared.Written.the-variants.{Done, Length as OtherLength}
 
 -- ---- a codeword within two places
 

@@ -21,6 +21,9 @@ use Rattle.codes.proofs.Promises.{found, none-near, answered-repaired}
 use Rattle.codes.proofs.Tally.{one-refusal, as-it-was, scrubbed-lt, tallies, again-number, again-no-flips, codeword-now}
 use Rattle.block_code.specs.Equations.{Codeword}
 use Rattle.block_code.specs.Code.{codeword, blockCode}
+use Rattle.block_code.proofs.Distance.{distance}
+use Rattle.block_code.proofs.Promises.{promised}
+use Rattle.block_code.proofs.Syndromes.{codeword-lt, data-words}
 use Rattle.block.specs.Answer.{answerOf, numberOf, flipsIn, encodeNumberOf}
 use Rattle.block.specs.Calls.{allowed, Encoded, Scrubbed}
 use Rattle.block.specs.Promises.{EncodePromises, ScrubPromises, OneOutcome}
@@ -28,10 +31,7 @@ use Rattle.block.specs.declared.Outcome.{Outcome}
 use Rattle.block.specs.declared.Outcome.the-variants.{Clean, Tie, Length}
 use Rattle.block.specs.declared.Written.{Written}
 use Rattle.block.specs.declared.Written.the-variants.{Done, Length as OtherLength}
-use Rattle.block_code.proofs.Distance.{distance}
-use Rattle.block_code.proofs.Promises.{promised}
 use Rattle.block.proofs.Outcomes.{block-lt, back, is-allowed, not-allowed}
-use Rattle.block_code.proofs.Syndromes.{codeword-lt, data-words}
 
 -- ---- the encoder
 

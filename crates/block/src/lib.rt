@@ -22,8 +22,8 @@ ghost use lib.ListN.{length};
 ghost use Rattle.words.specs.Fields.{joined};
 ghost use Rattle.codes.specs.Promises.{States};
 ghost use Rattle.block_code.specs.Code.{blockCode};
-ghost use Rattle.block.specs.Calls.{Encoded, Scrubbed};
 ghost use Rattle.block_code.specs.Checks.{noChecks, syndromeOf};
+ghost use Rattle.block.specs.Calls.{Encoded, Scrubbed};
 use block_code::Checks;
 use block_flips::Flips;
 

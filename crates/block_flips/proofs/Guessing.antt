@@ -8,10 +8,10 @@ use lib.Bits.{bitXor, xor-comm, xor-self, xor-zero-r}
 use lib.Count.{leadingZeros}
 use Rattle.words.proofs.Xor.{xor-by}
 use Rattle.block_code.specs.Checks.{mixed, ofPlace}
-use Rattle.block_flips.specs.Steps.{Among, Guessed}
 use Rattle.block_code.specs.declared.Checks.{Checks}
 use Rattle.block_code.proofs.Mixing.{mixed-comm}
 use Rattle.block_code.proofs.Places.{dataAt, rowAt, IsData, Kind, kind}
+use Rattle.block_flips.specs.Steps.{Among, Guessed}
 use Rattle.block_flips.proofs.Naming.{rows, columns, diagonals, low32, low16, low64, next16, one, two, order, above, highest-one, highest-two, some-rows, some-columns, check-alone, explaining, two-checks, next-none, next-two}
 
 -- the code's tests, one after the other, and what holds where one is the first that passes

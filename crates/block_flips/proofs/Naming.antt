@@ -16,10 +16,10 @@ use Rattle.words.specs.Word.{choose}
 use Rattle.words.proofs.Ones.{trailing-pow, trailing-two}
 use Rattle.words.proofs.Xor.{xor-cancel-l}
 use Rattle.block_code.specs.Checks.{mixed, ofPlace}
-use Rattle.block_flips.specs.Steps.{lowestOf}
 use Rattle.block_code.specs.declared.Checks.{Checks}
 use Rattle.block_code.proofs.Mixing.{mixed-comm}
 use Rattle.block_code.proofs.Places.{rowAt, columnAt, diagonalAt, IsData, IsCheck, Check, Kind, kind}
+use Rattle.block_flips.specs.Steps.{lowestOf}
 
 abbrev pub rows : Checks → ℕ
 rows s = s .rows

@@ -8,12 +8,12 @@ use lib.Bits.{bitXor}
 use lib.Dec.{eqb}
 use borrow.Author.Tests.{eqb-true, eqb-false}
 use Rattle.block_code.specs.Checks.{noChecks, mixed, IsNone, ofPlace}
-use Rattle.block_flips.specs.Steps.{lowestOf, Explained, OnlyPlace, Fails, Tried, Among, Guessed, Found, isMore}
 use Rattle.block_code.specs.declared.Checks.{Checks}
-use Rattle.block_flips.specs.declared.Flips.{Flips}
-use Rattle.block_flips.specs.declared.Flips.the-variants.{One, Two, More}
 use Rattle.block_code.proofs.Mixing.{mixed-self, mixed-comm, mixed-back, eq-of-mixed}
 use Rattle.block_code.proofs.Places.{dataAt, place-data}
+use Rattle.block_flips.specs.Steps.{lowestOf, Explained, OnlyPlace, Fails, Tried, Among, Guessed, Found, isMore}
+use Rattle.block_flips.specs.declared.Flips.{Flips}
+use Rattle.block_flips.specs.declared.Flips.the-variants.{One, Two, More}
 use Rattle.block_flips.proofs.Naming.{Only}
 
 -- ---- one place

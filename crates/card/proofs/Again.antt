@@ -15,16 +15,16 @@ use Rattle.codes.specs.Tally.{isClean, isMended, isLost, sumBy}
 use Rattle.codes.proofs.Tally.{scrubbed-lt}
 use Rattle.grid_code.specs.Code.{gridCode}
 use Rattle.grid_code.proofs.Promises as grid
-use Rattle.block_code.specs.Code.{blockCode}
-use Rattle.block_code.proofs.Promises as blocks
 use Rattle.page.specs.Calls.{tallyOf}
 use Rattle.page.specs.Promises as page
 use Rattle.page.proofs.Promises.{laws, tally-again}
+use Rattle.block_code.specs.Code.{blockCode}
+use Rattle.block_code.proofs.Promises as blocks
 use Rattle.image.specs.Card.{Part, grids, block, Card, gridsIn, blocksIn, head, partBytes, partsBytes, frontOf, imageOf}
 use Rattle.image.specs.Promises.{ProperPart, AllProper, Proper}
 use Rattle.card_scrub.specs.Calls.{scrubbedPart, scrubbedCard, talliesOf}
-use Rattle.card.specs.Promises.{SameFrame, Again}
 use Rattle.card_scrub.proofs.Parts.{block-laws}
+use Rattle.card.specs.Promises.{SameFrame, Again}
 
 -- ---- its grids and its blocks
 

@@ -21,20 +21,20 @@ use Rattle.image.specs.Promises.{Proper}
 use Rattle.image.specs.declared.Outcome.{Outcome}
 use Rattle.image.specs.declared.Outcome.the-variants.{Sound}
 use Rattle.image.proofs.Promises.{promised}
+use Rattle.image.proofs.Judged.{judged-long, judged-as}
 use Rattle.card_scrub.specs.declared.Tallies.{Tallies}
 use Rattle.card_scrub.specs.declared.ScrubAnswer.{ScrubAnswer}
 use Rattle.card_scrub.specs.declared.ScrubAnswer.the-variants.{Done, Length, Broken}
+use Rattle.card_scrub.specs.Answer.{numberOf as scrubNumber, placeOf as scrubPlace}
+use Rattle.card_scrub.specs.Calls.{scrubbedPart, scrubbedCard, talliesOf, Scrubbed}
+use Rattle.card_scrub.proofs.Parts.{block-laws}
 use Rattle.card_write.specs.declared.WriteAnswer.{WriteAnswer}
 use Rattle.card_write.specs.declared.WriteAnswer.the-variants.{Done as WriteDone, Length as WriteLength, Title, Room}
-use Rattle.card_scrub.specs.Answer.{numberOf as scrubNumber, placeOf as scrubPlace}
 use Rattle.card_write.specs.Answer.{numberOf as writeNumber, placeOf as writePlace}
-use Rattle.card_scrub.specs.Calls.{scrubbedPart, scrubbedCard, talliesOf, Scrubbed}
 use Rattle.card_write.specs.Calls.{cardOn, cardWith, sizeWritten, lengthsAllowed, Wrote}
+use Rattle.card_write.proofs.Writes.{is-long, is-bad, is-short, is-done}
 use Rattle.card_read.specs.Calls.{Read}
 use Rattle.card.specs.Promises.{Again, ScrubPromises, Switched, WritePromises, OneOutcome}
-use Rattle.card_scrub.proofs.Parts.{block-laws}
-use Rattle.card_write.proofs.Writes.{is-long, is-bad, is-short, is-done}
-use Rattle.image.proofs.Judged.{judged-long, judged-as}
 use Rattle.card.proofs.Again.{same-frame, second, still-proper, same-length, twice}
 use Rattle.card.proofs.Switches.{put-right, none-switched, no-flips, length-on, lengths, few, found-on, read-on}
 

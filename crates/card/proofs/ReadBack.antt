@@ -10,14 +10,14 @@ use Rattle.words.specs.Word.{choose}
 use Rattle.words.specs.Bytes.{laid}
 use Rattle.image.specs.Card.{Card, Found, sound, broken, gridsIn, cardOf}
 use Rattle.image.specs.Calls.{byFound}
+use Rattle.image.proofs.Judged.{judged-long, judged-as}
+use Rattle.value_read.specs.Shown.{dataOfGrids, flipsOfGrids}
 use Rattle.card_read.specs.declared.ReadAnswer.{ReadAnswer}
 use Rattle.card_read.specs.declared.ReadAnswer.the-variants.{Done, Length, Broken, Room}
-use Rattle.value_read.specs.Shown.{dataOfGrids, flipsOfGrids}
 use Rattle.card_read.specs.Answer.{numberOf, placeOf}
 use Rattle.card_read.specs.Calls.{roomFor, readAs, Read}
-use Rattle.card.specs.Promises.{ReadPromises}
-use Rattle.image.proofs.Judged.{judged-long, judged-as}
 use Rattle.card_read.proofs.Readings.{read-by-room}
+use Rattle.card.specs.Promises.{ReadPromises}
 
 module _ (image title ns flips title′ ns′ flips′ : List ℕ) (r : ReadAnswer) (h : Read image title ns flips r title′ ns′ flips′) where
   abbrev fits : {A : Type 0} → A → (Card → A) → Card → A

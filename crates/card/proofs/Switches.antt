@@ -11,8 +11,8 @@ use lib.Seq.{ext-getD}
 use borrow.Author.Tests.{leb-true, le-leb}
 use Rattle.words.specs.Word.{dist}
 use Rattle.words.specs.Fields.{Below}
-use Rattle.words.proofs.Bytes.{below-map}
 use Rattle.words.specs.Bytes.{laid}
+use Rattle.words.proofs.Bytes.{below-map}
 use Rattle.words.proofs.Lists.{map-getD}
 use Rattle.words.proofs.Dist.{dist-self}
 use Rattle.codes.specs.Verdict.{Verdict, clean, mended, lost, tie, off, verdict, repaired, scrubbed}
@@ -24,13 +24,13 @@ use Rattle.fields.proofs.Titles.{title-length}
 use Rattle.image.specs.Card.{grids, Card, gridsIn, sound, cardOf, partBytes, partsBytes, imageOf}
 use Rattle.image.specs.Promises.{Proper}
 use Rattle.image.proofs.Promises as image
+use Rattle.card_write.specs.Calls.{cardOn, lengthsAllowed}
+use Rattle.value_read.specs.Shown.{dataShown, flipsShown, dataOfGrid, flipsOfGrid, dataOfGrids, flipsOfGrids}
 use Rattle.card_read.specs.declared.ReadAnswer.{ReadAnswer}
 use Rattle.card_read.specs.declared.ReadAnswer.the-variants.{Done, Length, Broken, Room}
-use Rattle.value_read.specs.Shown.{dataShown, flipsShown, dataOfGrid, flipsOfGrid, dataOfGrids, flipsOfGrids}
-use Rattle.card_write.specs.Calls.{cardOn, lengthsAllowed}
 use Rattle.card_read.specs.Calls.{roomFor, readAs, Read}
-use Rattle.card.specs.Promises.{Switched}
 use Rattle.card_read.proofs.Readings.{roomy, read-by-room}
+use Rattle.card.specs.Promises.{Switched}
 use Rattle.card.proofs.Again.{grids-long, card-long}
 
 -- ---- grid by grid

@@ -20,16 +20,16 @@ use Rattle.value_scrub.specs.declared.Blocks.{Blocks}
 use Rattle.card_scrub.specs.declared.Tallies.{Tallies}
 use Rattle.card_scrub.specs.declared.ScrubAnswer.{ScrubAnswer}
 use Rattle.card_scrub.specs.declared.ScrubAnswer.the-variants.{Done}
+use Rattle.card_scrub.specs.Answer.{numberOf as scrubNumber, placeOf as scrubPlace}
+use Rattle.card_scrub.specs.Calls.{talliesOf, scrubbedCard, Scrubbed}
 use Rattle.card_write.specs.declared.WriteAnswer.{WriteAnswer}
 use Rattle.card_write.specs.declared.WriteAnswer.the-variants.{Done as WriteDone}
+use Rattle.card_write.specs.Answer.{numberOf as writeNumber, placeOf as writePlace}
+use Rattle.card_write.specs.Calls.{cardOn, cardWith, sizeWritten, lengthsAllowed, Wrote}
+use Rattle.value_read.specs.Shown.{dataOfGrids, flipsOfGrids}
 use Rattle.card_read.specs.declared.ReadAnswer.{ReadAnswer}
 use Rattle.card_read.specs.declared.ReadAnswer.the-variants.{Done as ReadDone}
-use Rattle.value_read.specs.Shown.{dataOfGrids, flipsOfGrids}
 use Rattle.card_read.specs.Answer.{numberOf as readNumber, placeOf as readPlace}
-use Rattle.card_scrub.specs.Answer.{numberOf as scrubNumber, placeOf as scrubPlace}
-use Rattle.card_write.specs.Answer.{numberOf as writeNumber, placeOf as writePlace}
-use Rattle.card_scrub.specs.Calls.{talliesOf, scrubbedCard, Scrubbed}
-use Rattle.card_write.specs.Calls.{cardOn, cardWith, sizeWritten, lengthsAllowed, Wrote}
 use Rattle.card_read.specs.Calls.{roomFor, Read}
 
 -- the same card, as far as a scrub goes: title, numbers of grids and of blocks

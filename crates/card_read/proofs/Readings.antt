@@ -14,12 +14,12 @@ use Rattle.fields.specs.declared.Field.the-variants.{Grids}
 use Rattle.fields.specs.Fields.{value, fieldOf}
 use Rattle.fields.proofs.Fields.{known, length-value, grids-size}
 use Rattle.image.specs.Card.{Part, Card, sound, broken, gridsIn, gridsAt, cardOf}
-use Rattle.card_read.specs.declared.ReadAnswer.the-variants.{Done, Length, Broken, Room}
-use Rattle.value_read.specs.Shown.{dataOfGrids, flipsOfGrids}
-use Rattle.card_read.specs.Calls.{roomFor, readAs, Read}
-use Rattle.values.proofs.Walks.{Front}
 use Rattle.image.proofs.Judged.{judged-long, judged-as}
+use Rattle.values.proofs.Walks.{Front}
 use Rattle.values.proofs.Judging.{Whole}
+use Rattle.value_read.specs.Shown.{dataOfGrids, flipsOfGrids}
+use Rattle.card_read.specs.declared.ReadAnswer.the-variants.{Done, Length, Broken, Room}
+use Rattle.card_read.specs.Calls.{roomFor, readAs, Read}
 
 module _ (s : List ℕ) (ps : List Part) (n left next : ℕ) (f : fieldOf s ≡ Grids n)
     (front : Front ps (gridsAt n (value s)) left next (drop (3 + n) s)) where

@@ -10,9 +10,9 @@ use Rattle.words.specs.Word.{choose}
 use Rattle.words.specs.Bytes.{laid}
 use Rattle.image.specs.Card.{Card, gridsIn}
 use Rattle.image.specs.Calls.{judged}
+use Rattle.value_read.specs.Shown.{dataOfGrids, flipsOfGrids}
 use Rattle.card_read.specs.declared.ReadAnswer.{ReadAnswer}
 use Rattle.card_read.specs.declared.ReadAnswer.the-variants.{Done, Length, Broken, Room}
-use Rattle.value_read.specs.Shown.{dataOfGrids, flipsOfGrids}
 
 -- room for the title, for each grid's data and for its flips
 abbrev pub roomFor : Card → List ℕ → List ℕ → List ℕ → Bool

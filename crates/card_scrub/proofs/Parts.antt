@@ -13,10 +13,10 @@ use Rattle.codes.specs.Verdict.{scrubbed, flipsOf}
 use Rattle.codes.specs.Tally.{isClean, isMended, isLost, TallyPromises}
 use Rattle.codes.proofs.Tally.{sum-append, tallies}
 use Rattle.grid_code.specs.Code.{gridCode}
-use Rattle.block_code.specs.Code.{blockCode}
-use Rattle.block_code.proofs.Promises.{promised}
 use Rattle.page.specs.declared.Tally.{Tally}
 use Rattle.page.specs.Calls.{tallyOf}
+use Rattle.block_code.specs.Code.{blockCode}
+use Rattle.block_code.proofs.Promises.{promised}
 use Rattle.fields.specs.declared.Field.the-variants.{Grids, Block}
 use Rattle.fields.specs.Fields.{value, fieldOf}
 use Rattle.fields.proofs.Fields.{Stands, known, length-value, grids-size}

@@ -1,12 +1,12 @@
--- What the call promises: one record, which determines the answer and every place of every lent slice. One test of the
--- image chooses for the answer and for the memory. Assumes nothing.
+-- What the call promises: one record, which determines the answer and every place of every lent slice. One test of the image chooses for
+-- the answer and for the memory. Assumes nothing.
 use mathlib.Core.Path.{_≡_}
 use mathlib.Core.List.{List, map}
 use Prim.Native.Nat.{ℕ}
 use Rattle.codes.specs.Verdict.{scrubbed}
 use Rattle.grid_code.specs.Code.{gridCode}
-use Rattle.block_code.specs.Code.{blockCode}
 use Rattle.page.specs.Calls.{tallyOf}
+use Rattle.block_code.specs.Code.{blockCode}
 use Rattle.image.specs.Card.{Part, grids, block, Card, gridsIn, blocksIn, imageOf}
 use Rattle.image.specs.Calls.{judged}
 use Rattle.value_scrub.specs.Tally.{blockTally}

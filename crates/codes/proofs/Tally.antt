@@ -10,8 +10,8 @@ use lib.ListN.{length, getD, take}
 use lib.Seq.{take-suc}
 use Rattle.codes.specs.Verdict.{Code, Verdict, clean, mended, lost, tie, refusal, flipsOf, verdict, repaired, scrubbed}
 use Rattle.codes.specs.Promises.{Hands, Promises}
-use Rattle.codes.proofs.Promises.{clean-word}
 use Rattle.codes.specs.Tally.{isClean, isMended, isLost, sumBy, TallyPromises}
+use Rattle.codes.proofs.Promises.{clean-word}
 
 -- ---- one word
 

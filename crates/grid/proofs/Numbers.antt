@@ -7,11 +7,11 @@ use Rattle.words.proofs.Fields.{joined-fields}
 use Rattle.codes.specs.Verdict.{verdict, scrubbed}
 use Rattle.codes.proofs.Tally.{scrubbed-lt}
 use Rattle.grid_code.specs.Code.{gridCode}
+use Rattle.grid_code.proofs.Distance.{codeword-lt}
+use Rattle.grid_code.proofs.Promises.{promised}
 use Rattle.grid.specs.Answer.{means}
 use Rattle.grid.specs.Calls.{Decoded}
 use Rattle.grid.specs.declared.Answer.{Answer}
-use Rattle.grid_code.proofs.Distance.{codeword-lt}
-use Rattle.grid_code.proofs.Promises.{promised}
 
 pub decoded-verdict : (w : ℕ) (rows : List ℕ) (a : Answer) → w < 2 ^ 64 → rows ≡ fields 8 8 w → Decoded rows a → means (a .verdict) ≡ verdict gridCode w
 decoded-verdict w rows a l e d = d .answer ∙ ap (verdict gridCode) (ap (joined 8) e ∙ joined-fields 8 8 w l)

@@ -14,14 +14,14 @@ use Rattle.codes.specs.Promises.{Demand3}
 use Rattle.codes.proofs.Promises.{answered-repaired}
 use Rattle.codes.proofs.Tally.{one-refusal, as-it-was, scrubbed-lt}
 use Rattle.grid_code.specs.Code.{codeword, gridCode}
+use Rattle.grid_code.proofs.Promises.{promised}
+use Rattle.grid_code.proofs.Distance.{codeword-lt}
 use Rattle.grid.specs.Answer.{means, numberOf}
 use Rattle.grid.specs.Calls.{Decoded}
 use Rattle.grid.specs.Promises.{DecodePromises, OneOutcome}
 use Rattle.grid.specs.declared.Answer.{Answer}
 use Rattle.grid.specs.declared.Verdict as enum
 use Rattle.grid.specs.declared.Verdict.the-variants.{Clean, Mended, Lost, Tie}
-use Rattle.grid_code.proofs.Promises.{promised}
-use Rattle.grid_code.proofs.Distance.{codeword-lt}
 
 module _ (rows : List ℕ) (r : Answer) (h : Decoded rows r) where
   numbers : (numberOf (r .verdict) ≡ 0) ⊎ (numberOf (r .verdict) ≡ 1)

@@ -18,14 +18,14 @@ use Rattle.codes.specs.Tally.{isClean}
 use Rattle.codes.proofs.Promises.{none-near, found, clean-word}
 use Rattle.codes.proofs.Tally.{clean-of}
 use Rattle.grid_code.specs.Code.{codeword, gridCode}
-use Rattle.grid.specs.Calls.{Judged, Decoded}
-use Rattle.grid_rows.specs.Rows.{mendedRow}
-use Rattle.grid_trials.specs.Steps.{Mended, Nearby}
-use Rattle.grid_trials.proofs.Decoder.{is-mended}
-use Rattle.grid.specs.declared.Verdict.the-variants.{Clean, Mended as Mends, Lost}
 use Rattle.grid_code.proofs.Distance.{distance}
 use Rattle.grid_code.proofs.Places.{gather, gather-lt, gathered, same-data}
 use Rattle.grid_code.proofs.Promises.{promised}
+use Rattle.grid_rows.specs.Rows.{mendedRow}
+use Rattle.grid_trials.specs.Steps.{Mended, Nearby}
+use Rattle.grid_trials.proofs.Decoder.{is-mended}
+use Rattle.grid.specs.Calls.{Judged, Decoded}
+use Rattle.grid.specs.declared.Verdict.the-variants.{Clean, Mended as Mends, Lost}
 
 some-flips : (d n : ℕ) → n ≢ 0 → answered d n ≡ mended d n
 some-flips d zero h = absurd (h refl)

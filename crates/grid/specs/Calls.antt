@@ -5,9 +5,9 @@ use mathlib.Core.List.{List}
 use Prim.Native.Nat.{ℕ}
 use lib.Dec.{eqb}
 use Rattle.words.specs.Fields.{fields, joined}
-use Rattle.grid_code.specs.Equations.{Codeword}
 use Rattle.codes.specs.Verdict.{verdict, scrubbed}
 use Rattle.codes.specs.Tally.{isClean}
+use Rattle.grid_code.specs.Equations.{Codeword}
 use Rattle.grid_code.specs.Code.{codeword, gridCode}
 use Rattle.grid.specs.Answer.{means}
 use Rattle.grid.specs.declared.Answer.{Answer}

@@ -23,13 +23,13 @@ use Rattle.codes.proofs.Trials.{candidate-column, every-product}
 use Rattle.grid_code.specs.Equations.{inColumn}
 use Rattle.grid_code.specs.Code.{codeword}
 use Rattle.grid_code.specs.Sides.{rowEntries, colEntries, sides, rowOf}
-use Rattle.grid_rows.specs.Rows.{fixed, mendedRow}
-use Rattle.grid_trials.specs.Steps.{Mended, Agrees, Solved, Tried, Nearby}
 use Rattle.grid_code.proofs.Codeword.{eighth}
 use Rattle.grid_code.proofs.Places.{gather, gather-lt, gathered}
 use Rattle.grid_code.proofs.Distance.{in-product, codeword-lt}
 use Rattle.grid_code.proofs.Promises.{promised}
+use Rattle.grid_rows.specs.Rows.{fixed, mendedRow}
 use Rattle.grid_rows.proofs.Repair.{repair, kept, kept-row, kept-below}
+use Rattle.grid_trials.specs.Steps.{Mended, Agrees, Solved, Tried, Nearby}
 
 -- words that agree in the data places, row by row and column by column
 same-places : (s y : ℕ) → ((c r : ℕ) → c < 4 → r < 8 → inColumn s c r ≡ inColumn y c r) → bitAnd s 0x0F0F_0F0F ≡ bitAnd y 0x0F0F_0F0F

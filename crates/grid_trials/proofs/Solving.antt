@@ -17,8 +17,8 @@ use Rattle.words.proofs.Test.{allBelow, at-below, allPairs, same-below, same-pa
 use Rattle.codes.proofs.Column.{only, lone, named, odd, at, inside, outside, Perfect, is-odd, one-right, several-right}
 use Rattle.grid_code.specs.Equations.{inColumn}
 use Rattle.grid_code.specs.Sides.{colEntries, rowOf}
-use Rattle.grid_trials.specs.Steps.{Asides, OneRow, Solved}
 use Rattle.grid_code.proofs.Codeword.{eighth}
+use Rattle.grid_trials.specs.Steps.{Asides, OneRow, Solved}
 
 perfect : Perfect colEntries 8
 perfect = record {

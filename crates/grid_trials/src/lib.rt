@@ -32,8 +32,8 @@ fn trial(word: u64, rows: u64, least: u32) -> Near
     }
 }
 
-// What the first trial reaches if it is near enough, and what the second does if not, where `rows` is what `grid_rows::mended` keeps of the word
-// read: the first sets the rows aside that need two flips, the second those that need one or two.
+// What the first trial reaches if it is near enough, and what the second does if not, where `rows` is what `grid_rows::mended` keeps of the
+// word read: the first sets the rows aside that need two flips, the second those that need one or two.
 pub fn nearest(word: u64, rows: u64) -> Near
     ensures { λ r. ⌜ (Mended word rows → Nearby word (r .number) (r .flips)) ⌝ }
 {

@@ -11,11 +11,11 @@ use Rattle.image.specs.declared.Outcome.{Outcome}
 use Rattle.image.specs.declared.Outcome.the-variants.{Sound, Length, Broken}
 use Rattle.card_scrub.specs.declared.ScrubAnswer.{ScrubAnswer}
 use Rattle.card_scrub.specs.declared.ScrubAnswer.the-variants.{Done as ScrubDone, Length as ScrubLength, Broken as ScrubBroken}
+use Rattle.card_scrub.specs.Calls.{Scrubbed}
 use Rattle.card_write.specs.declared.WriteAnswer.{WriteAnswer}
 use Rattle.card_write.specs.declared.WriteAnswer.the-variants.{Done as WriteDone, Length as WriteLength, Title, Room}
 use Rattle.card_read.specs.declared.ReadAnswer.{ReadAnswer}
 use Rattle.card_read.specs.declared.ReadAnswer.the-variants.{Done as ReadDone, Length as ReadLength, Broken as ReadBroken, Room as ReadRoom}
-use Rattle.card_scrub.specs.Calls.{Scrubbed}
 
 -- a number in 16 bits; one that does not fit is shown as 65,535, which no right answer has
 abbrev pub short : ℕ → ℕ

@@ -14,9 +14,9 @@ use Rattle.codes.specs.Verdict.{Verdict, clean, mended, lost, flipsOf, verdict,
 use Rattle.codes.specs.Tally.{isClean, isMended, isLost}
 use Rattle.codes.proofs.Promises.{clean-word}
 use Rattle.codes.proofs.Tally.{one-kind, clean-of, sum-bound, sum-step, few-flips}
-use Rattle.grid.specs.Calls.{Judged}
 use Rattle.grid_code.specs.Code.{gridCode}
 use Rattle.grid_code.proofs.Promises as grid
+use Rattle.grid.specs.Calls.{Judged}
 use Rattle.page.specs.Calls.{tallyOf}
 use Rattle.page.specs.Steps.{counted, Roomy}
 use Rattle.page.specs.declared.Tally.{Tally}

@@ -5,8 +5,8 @@
 ghost use mathlib.Core.Path.{_≡_};
 ghost use Prim.Native.Nat.{_+_, _<_};
 ghost use Rattle.codes.specs.Verdict.{verdict, scrubbed};
-ghost use Rattle.grid.specs.Answer.{means};
 ghost use Rattle.grid_code.specs.Code.{gridCode};
+ghost use Rattle.grid.specs.Answer.{means};
 ghost use Rattle.page.specs.Calls.{Scrubbed};
 ghost use Rattle.page.specs.Steps.{none, counted, Roomy};
 use grid::Grid;

@@ -21,18 +21,18 @@ use Rattle.codes.specs.Verdict.{Verdict, clean, mended, lost, tie, verdict, scr
 use Rattle.codes.specs.Tally.{isClean, isMended, isLost, sumBy}
 use Rattle.codes.proofs.Tally.{unmended, sum-append}
 use Rattle.grid_code.specs.Code.{gridCode}
-use Rattle.block_code.specs.Code.{blockCode}
-use Rattle.block.specs.Answer.{answerOf}
-use Rattle.block.specs.Calls as block
-use Rattle.block.specs.declared.Outcome.{Outcome}
-use Rattle.block.specs.declared.Outcome.the-variants.{Clean, Mended, Lost, Tie, Length}
-use Rattle.block.proofs.Outcome.{the-type}
-use Rattle.block_code.proofs.Promises as blocks
 use Rattle.grid_code.proofs.Promises as grid
 use Rattle.page.specs.declared.Tally.{Tally}
 use Rattle.page.specs.declared.Outcome.the-variants.{Done}
 use Rattle.page.specs.Calls.{tallyOf, Scrubbed}
 use Rattle.page.proofs.Promises.{laws, counted}
+use Rattle.block_code.specs.Code.{blockCode}
+use Rattle.block_code.proofs.Promises as blocks
+use Rattle.block.specs.Answer.{answerOf}
+use Rattle.block.specs.Calls as block
+use Rattle.block.specs.declared.Outcome.{Outcome}
+use Rattle.block.specs.declared.Outcome.the-variants.{Clean, Mended, Lost, Tie, Length}
+use Rattle.block.proofs.Outcome.{the-type}
 use Rattle.value_scrub.specs.declared.Blocks.{Blocks}
 use Rattle.value_scrub.specs.Tally.{blockTally}
 use Rattle.value_scrub.specs.Steps.{bothGrids, RoomyGrids, ScrubbedGrids, ScrubbedBlock}

@@ -7,9 +7,9 @@ use Rattle.words.specs.Fields.{fields, joined}
 use Rattle.words.specs.Bytes.{wordsIn, bytesOf}
 use Rattle.codes.specs.Verdict.{scrubbed}
 use Rattle.grid_code.specs.Code.{gridCode}
-use Rattle.block_code.specs.Code.{blockCode}
 use Rattle.page.specs.declared.Tally.{Tally}
 use Rattle.page.specs.Calls.{tallyOf}
+use Rattle.block_code.specs.Code.{blockCode}
 use Rattle.value_scrub.specs.declared.Blocks.{Blocks}
 use Rattle.value_scrub.specs.Tally.{blockTally}
 

@@ -18,9 +18,9 @@ use Rattle.fields.specs.Fields.{size, value, fieldOf}
 use Rattle.fields.proofs.Field.{the-type}
 use Rattle.fields.proofs.Fields.{known}
 use Rattle.image.specs.Card.{Part, Found, sound, broken, gridsIn, blocksIn, gridsAt, blockAt, before, walk, head}
-use Rattle.values.specs.Steps.{Walks}
 use Rattle.image.proofs.Walking.{walk-grids, walk-block, full-grids, full-block, walk-end, walk-behind, walk-title, walk-fails}
 use Rattle.image.proofs.Shape.{split}
+use Rattle.values.specs.Steps.{Walks}
 
 abbrev pub less : ℕ → ℕ
 less zero = zero

@@ -3,9 +3,9 @@ use mathlib.Core.Path.{ap, _∙_, subst}
 use Prim.Native.Nat.{ℕ, _^_}
 use native.Mathlib.Omega.{arith}
 use lib.Bits.{bitXor}
+use borrow.Author.Needs.{needs}
 use Rattle.block_flips.specs.Steps.{Found, Unexplained}
 use Rattle.block.proofs.Outcomes.{mends-one, mends-two, is-lost}
-use borrow.Author.Needs.{needs}
 use Rattle.block.proofs.mend.Statement.{statement}
 use Rattle.block.proofs.mend.Tie as tie
 

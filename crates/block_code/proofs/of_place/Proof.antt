@@ -3,10 +3,10 @@ use mathlib.Core.Path.{_≡_, sym, ap, _∙_}
 use Prim.Native.Nat.{ℕ, _+_, _-_, _*_, _/_, _%_, _^_, _<_}
 use native.Mathlib.Omega.{arith}
 use lib.Bits.{bitXor}
+use borrow.Author.Needs.{needs}
 use Rattle.words.proofs.Ones.{one-up}
 use Rattle.block_code.specs.Checks.{ofPlace}
 use Rattle.block_code.proofs.Places.{place-data, place-row, place-column, place-diagonal}
-use borrow.Author.Needs.{needs}
 use Rattle.block_code.proofs.of_place.Statement.{statement}
 use Rattle.block_code.proofs.of_place.Tie as tie
 

@@ -2,11 +2,11 @@
 use mathlib.Core.Path.{sym, subst}
 use mathlib.Core.Logic.{inl, inr}
 use Prim.Native.Nat.{ℕ, _+_, _*_}
-use Rattle.block_flips.specs.Steps.{Explained, OnlyPlace}
+use borrow.Author.Needs.{needs}
 use Rattle.block_code.specs.declared.Checks.{Checks}
+use Rattle.block_flips.specs.Steps.{Explained, OnlyPlace}
 use Rattle.block_flips.proofs.Naming.{low32, low16, some, only-data}
 use Rattle.block_flips.proofs.Search.{is-alone, not-alone}
-use borrow.Author.Needs.{needs}
 use Rattle.block_flips.proofs.alone.Statement.{statement}
 use Rattle.block_flips.proofs.alone.Tie as tie
 

@@ -2,11 +2,11 @@
 use mathlib.Core.Path.{ap, _∙_, subst}
 use Prim.Native.Nat.{ℕ}
 use native.Mathlib.Omega.{arith}
-use Rattle.block_code.specs.Checks.{mixed, IsNone}
-use Rattle.block_flips.specs.Steps.{OnlyPlace}
-use Rattle.block_code.specs.declared.Checks.{Checks}
-use Rattle.block_flips.proofs.Search.{tried-one, tried-two, tried-more, tried-nowhere}
 use borrow.Author.Needs.{needs}
+use Rattle.block_code.specs.Checks.{mixed, IsNone}
+use Rattle.block_code.specs.declared.Checks.{Checks}
+use Rattle.block_flips.specs.Steps.{OnlyPlace}
+use Rattle.block_flips.proofs.Search.{tried-one, tried-two, tried-more, tried-nowhere}
 use Rattle.block_flips.proofs.attempt.Statement.{statement}
 use Rattle.block_flips.proofs.attempt.Tie as tie
 

@@ -2,9 +2,9 @@
 use mathlib.Core.Path.{refl, _∙_}
 use native.Mathlib.Omega.{arith}
 use lib.Count.{trailing-le}
+use borrow.Author.Needs.{needs}
 use Rattle.block_code.specs.declared.Checks.{Checks}
 use Rattle.block_flips.proofs.Guessing.{guessed, taken, left, placed}
-use borrow.Author.Needs.{needs}
 use Rattle.block_flips.proofs.chosen.Statement.{statement}
 use Rattle.block_flips.proofs.chosen.Tie as tie
 

@@ -1,9 +1,9 @@
 -- `block_flips::explains` meets its contract. Assumes nothing.
 use mathlib.Core.Path.{ap, _∙_, subst}
+use borrow.Author.Needs.{needs}
 use Rattle.block_code.specs.Checks.{mixed, IsNone}
 use Rattle.block_code.specs.declared.Checks.{Checks}
 use Rattle.block_flips.proofs.Search.{explained, nowhere}
-use borrow.Author.Needs.{needs}
 use Rattle.block_flips.proofs.explains.Statement.{statement}
 use Rattle.block_flips.proofs.explains.Tie as tie
 

@@ -4,11 +4,11 @@ use Prim.Native.Nat.{ℕ, _+_, _*_, _^_}
 use native.Mathlib.Omega.{arith}
 use lib.Bits.{bitXor}
 use lib.Dec.{eqb}
-use Rattle.words.proofs.Ones.{one-up}
-use Rattle.block_flips.specs.Steps.{Explained}
-use Rattle.block_code.specs.declared.Checks.{Checks}
-use Rattle.block_flips.proofs.Search.{other-data, by-diagonal}
 use borrow.Author.Needs.{needs}
+use Rattle.words.proofs.Ones.{one-up}
+use Rattle.block_code.specs.declared.Checks.{Checks}
+use Rattle.block_flips.specs.Steps.{Explained}
+use Rattle.block_flips.proofs.Search.{other-data, by-diagonal}
 use Rattle.block_flips.proofs.is_data.Statement.{statement}
 use Rattle.block_flips.proofs.is_data.Tie as tie
 

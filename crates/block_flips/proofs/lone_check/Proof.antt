@@ -1,11 +1,11 @@
 -- `block_flips::lone_check` meets its contract: no other place than the lowest check explains the syndrome. Assumes nothing.
 use mathlib.Core.Path.{subst}
 use Prim.Native.Nat.{ℕ}
-use Rattle.block_flips.specs.Steps.{Explained}
+use borrow.Author.Needs.{needs}
 use Rattle.block_code.specs.declared.Checks.{Checks}
+use Rattle.block_flips.specs.Steps.{Explained}
 use Rattle.block_flips.proofs.Naming.{only-check}
 use Rattle.block_flips.proofs.Search.{is-alone, not-alone}
-use borrow.Author.Needs.{needs}
 use Rattle.block_flips.proofs.lone_check.Statement.{statement}
 use Rattle.block_flips.proofs.lone_check.Tie as tie
 

@@ -5,11 +5,11 @@ use Prim.Native.Nat.{ℕ, _-_, _≤_, _<_}
 use native.Mathlib.Omega.{arith}
 use lib.ListN.{getD}
 use borrow.Author.Count.{below-more}
-use Rattle.block_flips.specs.Steps.{Fails}
-use Rattle.block_code.specs.declared.Checks.{Checks}
-use Rattle.block_flips.proofs.Search.{found, failed, none-found}
 use borrow.Author.Tests.{not-true, not-false}
 use borrow.Author.Needs.{needs}
+use Rattle.block_code.specs.declared.Checks.{Checks}
+use Rattle.block_flips.specs.Steps.{Fails}
+use Rattle.block_flips.proofs.Search.{found, failed, none-found}
 use Rattle.block_flips.proofs.nearest.Statement.{statement}
 use Rattle.block_flips.proofs.nearest.Tie as tie
 

@@ -3,8 +3,8 @@ use mathlib.Core.Path.{ap}
 use Prim.Native.Nat.{ℕ}
 use lib.Bits.{bitXor}
 use lib.Count.{trailingZeros}
-use Rattle.words.proofs.Ones.{one-up}
 use borrow.Author.Needs.{needs}
+use Rattle.words.proofs.Ones.{one-up}
 use Rattle.block_flips.proofs.second.Statement.{statement}
 use Rattle.block_flips.proofs.second.Tie as tie
 

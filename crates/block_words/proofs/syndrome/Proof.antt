@@ -3,10 +3,10 @@ use mathlib.Core.Path.{refl, sym, ap, ap₂, _∙_}
 use mathlib.Core.List.{List}
 use Prim.Native.Nat.{ℕ}
 use native.Mathlib.Omega.{arith}
+use borrow.Author.Needs.{needs}
 use Rattle.words.specs.Fields.{joined}
 use Rattle.words.proofs.Fields.{fields-take}
 use Rattle.block_code.specs.Checks.{mixed, saidBy, heldBy, syndromeOf}
-use borrow.Author.Needs.{needs}
 use Rattle.block_words.proofs.syndrome.Statement.{statement}
 use Rattle.block_words.proofs.syndrome.Tie as tie
 

@@ -6,13 +6,13 @@ use native.Mathlib.Omega.{arith}
 use lib.ListN.{length, take, drop-of-length-le}
 use lib.Pow.{split}
 use lib.Seq.{sets, sets-eq, paste, take-paste, length-paste}
+use borrow.Author.Needs.{needs}
 use Rattle.words.specs.Fields.{fields, joined, Below}
 use Rattle.words.proofs.Fields.{fields-take, fields-joined, joined-fields, joined-lt, joined-append}
 use Rattle.block_code.specs.Code.{codeword}
 use Rattle.block_code.specs.Checks.{saidBy, checkWords}
 use Rattle.block_code.specs.declared.Checks.{Checks}
 use Rattle.block_code.proofs.Syndromes.{diagonals-lt}
-use borrow.Author.Needs.{needs}
 use Rattle.block_words.proofs.write.Statement.{statement}
 use Rattle.block_words.proofs.write.Tie as tie
 

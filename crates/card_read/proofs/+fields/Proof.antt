@@ -5,6 +5,9 @@ use Prim.Native.Nat.{ℕ, _+_, _-_, _*_, _/_, _<_, _≤_}
 use native.Mathlib.Omega.{arith}
 use lib.ListN.{length, take, drop}
 use denote.Ref.{now}
+use borrow.Author.Needs.{needs}
+use borrow.Fn.Kinds.{In}
+use borrow.Fn.PlainCycle.{Measures, is, falls, and}
 use Rattle.words.specs.Fields.{Below}
 use Rattle.words.specs.Bytes.{laid}
 use Rattle.words.proofs.Lists.{part-behind, length-part}
@@ -12,19 +15,16 @@ use Rattle.words.proofs.Bytes.{laid-none}
 use Rattle.fields.specs.declared.Field.the-variants.{Grids, Block}
 use Rattle.fields.specs.Fields.{fieldOf}
 use Rattle.fields.proofs.Fields.{known}
+use Rattle.fields.proofs.front.Reads as front-reads
 use Rattle.image.specs.Card.{walk, gridsIn}
-use Rattle.value_read.specs.Shown.{dataOfGrid, flipsOfGrid, dataOfGrids, flipsOfGrids}
-use Rattle.card_read.specs.Steps.{ReadsFields}
 use Rattle.values.proofs.Walks.{less, grids-front, block-front, only-end, value-is, value-long, walks-on, block-walks-on}
+use Rattle.value_read.specs.Shown.{dataOfGrid, flipsOfGrid, dataOfGrids, flipsOfGrids}
+use Rattle.value_read.proofs.grids.Reads as grids-reads
+use Rattle.card_read.specs.Steps.{ReadsFields}
 use Rattle.card_read.proofs.Readings.{counted, whole-grids, read-on}
-use borrow.Author.Needs.{needs}
-use borrow.Fn.Kinds.{In}
-use borrow.Fn.PlainCycle.{Measures, is, falls, and}
 use Rattle.card_read.proofs.fields.Reads as fields
 use Rattle.card_read.proofs.fields.Kinds as fields-kinds
 use Rattle.card_read.proofs.+fields.Lts-fields as lts
-use Rattle.value_read.proofs.grids.Reads as grids-reads
-use Rattle.fields.proofs.front.Reads as front-reads
 use Rattle.card_read.proofs.+fields.{statement}
 use Rattle.card_read.proofs.+fields.Tie.{close}
 

@@ -5,16 +5,16 @@ use native.Mathlib.Omega.{arith}
 use lib.ListN.{length, drop, length-drop}
 use denote.Ref.{now}
 use borrow.Author.Tests.{leb-true}
+use borrow.Author.Needs.{needs}
 use Rattle.words.specs.Bytes.{laid}
 use Rattle.words.proofs.Lists.{part-behind}
 use Rattle.image.specs.Card.{gridsIn, walk}
 use Rattle.image.specs.Calls.{Checked}
 use Rattle.image.proofs.Promises.{promised}
+use Rattle.values.proofs.Judging.{too-long, broken-at, whole, inside, stands, title-long, walks}
 use Rattle.card_read.specs.declared.ReadAnswer.the-variants.{Done}
 use Rattle.card_read.specs.Steps.{ReadsFields}
-use Rattle.values.proofs.Judging.{too-long, broken-at, whole, inside, stands, title-long, walks}
 use Rattle.card_read.proofs.Readings.{refused-3, refused-4, short-title, short-numbers, short-flips, all-read}
-use borrow.Author.Needs.{needs}
 use Rattle.card_read.proofs.read.Statement.{statement}
 use Rattle.card_read.proofs.read.Tie as tie
 

@@ -5,30 +5,30 @@ use Prim.Native.Nat.{ℕ, _+_, _-_, _%_, _≤_, _<_}
 use native.Mathlib.Omega.{arith}
 use lib.ListN.{length, take, drop, length-drop}
 use denote.Ref.{now}
+use borrow.Author.Needs.{needs}
+use borrow.Fn.Kinds.{In}
+use borrow.Fn.PlainCycle.{Measures, is, falls, and}
 use Rattle.words.specs.Fields.{Below}
 use Rattle.codes.specs.Tally.{sumBy}
 use Rattle.fields.specs.declared.Field.the-variants.{Grids}
 use Rattle.fields.specs.Fields.{fieldOf}
 use Rattle.fields.proofs.Fields.{known, grids-size}
+use Rattle.fields.proofs.front.Reads as front-reads
 use Rattle.image.specs.Card.{head, partsBytes}
 use Rattle.values.specs.Steps.{Walks}
 use Rattle.values.proofs.Walks.{only-end, value-is, value-long, walks-on, block-walks-on}
-use Rattle.card_scrub.specs.Calls.{scrubbedPart, talliesOf}
-use Rattle.card_scrub.specs.Steps.{ScrubbedFields}
-use Rattle.card_scrub.proofs.Parts.{behind-it, put-together, same-long, grids-scrubbed, block-scrubbed, grids-together, blocks-together}
-use borrow.Author.Needs.{needs}
-use borrow.Fn.Kinds.{In}
-use borrow.Fn.PlainCycle.{Measures, is, falls, and}
-use Rattle.card_scrub.proofs.fields.Reads as fields
-use Rattle.card_scrub.proofs.fields.Kinds as fields-kinds
-use Rattle.card_scrub.proofs.+fields.Lts-fields as lts
 use Rattle.value_scrub.proofs.block.Reads as block-reads
 use Rattle.value_scrub.proofs.both.Reads as both-reads
 use Rattle.value_scrub.proofs.grids.Reads as grids-reads
 use Rattle.value_scrub.proofs.no_blocks.Reads as no-blocks-reads
 use Rattle.value_scrub.proofs.no_grids.Reads as no-grids-reads
+use Rattle.card_scrub.specs.Calls.{scrubbedPart, talliesOf}
+use Rattle.card_scrub.specs.Steps.{ScrubbedFields}
+use Rattle.card_scrub.proofs.Parts.{behind-it, put-together, same-long, grids-scrubbed, block-scrubbed, grids-together, blocks-together}
+use Rattle.card_scrub.proofs.fields.Reads as fields
+use Rattle.card_scrub.proofs.fields.Kinds as fields-kinds
+use Rattle.card_scrub.proofs.+fields.Lts-fields as lts
 use Rattle.card_scrub.proofs.with_block.Reads as with-block-reads
-use Rattle.fields.proofs.front.Reads as front-reads
 use Rattle.card_scrub.proofs.+fields.{statement}
 use Rattle.card_scrub.proofs.+fields.Tie.{close}
 

@@ -6,17 +6,17 @@ use native.Mathlib.Omega.{arith}
 use lib.ListN.{length, drop}
 use denote.Ref.{now}
 use borrow.Author.Tests.{leb-true}
+use borrow.Author.Needs.{needs}
 use Rattle.words.proofs.Lists.{part-behind}
 use Rattle.image.specs.Card.{Card, walk, imageOf}
 use Rattle.image.specs.Calls.{Checked}
 use Rattle.image.proofs.Promises.{promised}
+use Rattle.image.proofs.Judged.{judged-long, judged-as}
+use Rattle.values.specs.Steps.{Walks}
+use Rattle.values.proofs.Judging.{too-long, broken-at, Whole, whole, Inside, inside, stands, title-long, walks}
 use Rattle.card_scrub.specs.declared.ScrubAnswer.the-variants.{Done, Length, Broken}
 use Rattle.card_scrub.specs.Calls.{scrubbedCard, talliesOf}
-use Rattle.values.specs.Steps.{Walks}
-use Rattle.image.proofs.Judged.{judged-long, judged-as}
-use Rattle.values.proofs.Judging.{too-long, broken-at, Whole, whole, Inside, inside, stands, title-long, walks}
 use Rattle.card_scrub.proofs.Parts.{scrubbed-image}
-use borrow.Author.Needs.{needs}
 use Rattle.card_scrub.proofs.scrub.Statement.{statement}
 use Rattle.card_scrub.proofs.scrub.Tie as tie
 

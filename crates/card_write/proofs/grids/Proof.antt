@@ -6,12 +6,12 @@ use native.Mathlib.Omega.{arith}
 use lib.ListN.{length, take, drop, length-map}
 use lib.Seq.{take-all}
 use denote.Ref.{now}
+use borrow.Author.Needs.{needs}
 use Rattle.words.specs.Fields.{fields}
 use Rattle.words.specs.Bytes.{bytesOf, laid}
 use Rattle.words.proofs.Lists.{length-part, map-getD}
 use Rattle.words.proofs.Turns.{no-words, word-turn, length-turn}
 use Rattle.grid_code.specs.Code.{codeword}
-use borrow.Author.Needs.{needs}
 use Rattle.card_write.proofs.grids.Statement.{statement}
 use Rattle.card_write.proofs.grids.Tie as tie
 

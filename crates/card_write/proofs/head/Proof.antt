@@ -6,9 +6,9 @@ use native.Mathlib.Omega.{arith}
 use lib.ListN.{length-set}
 use lib.Seq.{sets}
 use denote.Ref.{now}
+use borrow.Author.Needs.{needs}
 use Rattle.words.proofs.Turns.{stored}
 use Rattle.image.specs.Card.{head}
-use borrow.Author.Needs.{needs}
 use Rattle.card_write.proofs.head.Statement.{statement}
 use Rattle.card_write.proofs.head.Tie as tie
 

@@ -5,13 +5,13 @@ use Prim.Native.Nat.{_+_}
 use native.Mathlib.Omega.{arith}
 use lib.ListN.{length, length-append}
 use denote.Ref.{now}
+use borrow.Author.Needs.{needs}
 use Rattle.words.specs.Bytes.{laid}
 use Rattle.words.proofs.Lists.{length-part}
 use Rattle.words.proofs.Bytes.{length-laid, laid-part}
 use Rattle.grid_code.specs.Code.{codeword}
 use Rattle.image.specs.Card.{head, grids, partBytes}
 use Rattle.card_write.proofs.Writes.{written-is}
-use borrow.Author.Needs.{needs}
 use Rattle.card_write.proofs.lay.Statement.{statement}
 use Rattle.card_write.proofs.lay.Tie as tie
 

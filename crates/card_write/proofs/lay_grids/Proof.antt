@@ -5,11 +5,11 @@ use Prim.Native.Nat.{ℕ, _+_, _*_}
 use native.Mathlib.Omega.{arith}
 use lib.ListN.{length, length-append, length-map}
 use denote.Ref.{now}
+use borrow.Author.Needs.{needs}
 use Rattle.words.specs.Bytes.{bytesOf, laid}
 use Rattle.words.proofs.Bytes.{length-bytes, laid-part}
 use Rattle.grid_code.specs.Code.{codeword}
 use Rattle.image.specs.Card.{head, grids, partBytes}
-use borrow.Author.Needs.{needs}
 use Rattle.card_write.proofs.lay_grids.Statement.{statement}
 use Rattle.card_write.proofs.lay_grids.Tie as tie
 

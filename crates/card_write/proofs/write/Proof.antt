@@ -6,6 +6,7 @@ use native.Mathlib.Omega.{arith}
 use lib.ListN.{length}
 use denote.Ref.{now}
 use borrow.Author.Tests.{not-true, not-false}
+use borrow.Author.Needs.{needs}
 use Rattle.words.specs.Bytes.{laid}
 use Rattle.fields.specs.Fields.{titleLength}
 use Rattle.fields.specs.Calls.{Measured}
@@ -14,7 +15,6 @@ use Rattle.image.specs.Card.{imageOf}
 use Rattle.card_write.specs.declared.WriteAnswer.the-variants.{Done, Length as WriteLength, Title, Room}
 use Rattle.card_write.specs.Calls.{cardWith, sizeWritten}
 use Rattle.card_write.proofs.Writes.{no-title, many-numbers, allowed, is-long, is-bad, is-short, is-done}
-use borrow.Author.Needs.{needs}
 use Rattle.card_write.proofs.write.Statement.{statement}
 use Rattle.card_write.proofs.write.Tie as tie
 

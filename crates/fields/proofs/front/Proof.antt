@@ -5,10 +5,10 @@ use Prim.Native.Nat.{ℕ, _+_, _-_, _≤_}
 use native.Mathlib.Omega.{arith}
 use lib.ListN.{length, take, drop}
 use denote.Ref.{now}
+use borrow.Author.Needs.{needs}
 use Rattle.fields.specs.declared.Field.the-variants.{Title}
 use Rattle.fields.specs.Fields.{tag, size, value, isTitle, otherField}
 use Rattle.fields.proofs.Fields.{past-end, title-found, no-title, other}
-use borrow.Author.Needs.{needs}
 use Rattle.fields.proofs.front.Statement.{statement}
 use Rattle.fields.proofs.front.Tie as tie
 

@@ -7,8 +7,8 @@ use lib.Dec.{eqb}
 use lib.ListN.{length}
 use denote.Ref.{now}
 use borrow.Author.Tests.{not-true, not-false}
-use Rattle.fields.specs.Fields.{titleLength, firstBad}
 use borrow.Author.Needs.{needs}
+use Rattle.fields.specs.Fields.{titleLength, firstBad}
 use Rattle.fields.proofs.is_title.Statement.{statement}
 use Rattle.fields.proofs.is_title.Tie as tie
 

@@ -2,10 +2,10 @@
 use mathlib.Core.Path.{_≡_, ap₂, _∙_}
 use Prim.Native.Nat.{ℕ, _*_, _%_, _^_}
 use lib.Bits.{bitOr}
+use borrow.Author.Needs.{needs}
 use Rattle.words.proofs.Fields.{both-parts}
 use Rattle.grid_code.specs.Code.{codeword}
 use Rattle.grid_code.proofs.Distance.{codeword-lt}
-use borrow.Author.Needs.{needs}
 use Rattle.grid_code.proofs.completed.Statement.{statement}
 use Rattle.grid_code.proofs.completed.Tie as tie
 

@@ -9,12 +9,12 @@ use lib.Dec.{ltb, ltb→lt}
 use lib.ListN.{length, getD, set}
 use mir.Syntax.{w8}
 use mir.Val.{Fits}
+use borrow.Author.Needs.{needs}
 use Rattle.words.specs.Word.{dist}
 use Rattle.words.proofs.Lists.{partly, partly-none, partly-step, partly-all}
 use Rattle.words.proofs.Test.{at-below, same-below}
 use Rattle.codes.specs.Product.{aside}
 use Rattle.grid_rows.specs.Rows.{fixed, mendedRow}
-use borrow.Author.Needs.{needs}
 use Rattle.grid_rows.proofs.mended.Statement.{statement}
 use Rattle.grid_rows.proofs.mended.Tie as tie
 

@@ -6,9 +6,9 @@ use native.Mathlib.Omega.{arith}
 use lib.ListN.{length, getD}
 use mir.Syntax.{w8}
 use mir.Val.{Fits}
+use borrow.Author.Needs.{needs}
 use Rattle.words.specs.Fields.{joined}
 use Rattle.words.proofs.Fields.{listed, listed-getD}
-use borrow.Author.Needs.{needs}
 use Rattle.grid_rows.proofs.number.Statement.{statement}
 use Rattle.grid_rows.proofs.number.Tie as tie
 

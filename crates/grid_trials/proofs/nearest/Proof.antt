@@ -2,8 +2,8 @@
 use Prim.Native.Nat.{_^_, _<_}
 use native.Mathlib.Omega.{arith}
 use lib.Dec.{lit<}
-use Rattle.grid_trials.proofs.Decoder.{both-trials}
 use borrow.Author.Needs.{needs}
+use Rattle.grid_trials.proofs.Decoder.{both-trials}
 use Rattle.grid_trials.proofs.nearest.Statement.{statement}
 use Rattle.grid_trials.proofs.nearest.Tie as tie
 

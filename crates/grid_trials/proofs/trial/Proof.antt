@@ -1,8 +1,8 @@
 -- `grid_trials::trial` meets its contract: the codeword with the data places that came out, and its places counted. Assumes nothing.
 use Prim.Native.Nat.{_^_, _<_}
+use borrow.Author.Needs.{needs}
 use Rattle.words.specs.Word.{dist}
 use Rattle.grid_trials.proofs.Decoder.{tried}
-use borrow.Author.Needs.{needs}
 use Rattle.grid_trials.proofs.trial.Statement.{statement}
 use Rattle.grid_trials.proofs.trial.Tie as tie
 

@@ -6,6 +6,7 @@ use native.Mathlib.Omega.{arith}
 use lib.ListN.{length, getD, set, take, length-set, length-map}
 use lib.Seq.{take-all}
 use denote.Ref.{now}
+use borrow.Author.Needs.{needs}
 use Rattle.words.specs.Bytes.{laid}
 use Rattle.words.proofs.Bytes.{laid-none, laid-all}
 use Rattle.words.proofs.Turns.{map-turn}
@@ -13,7 +14,6 @@ use Rattle.codes.specs.Verdict.{verdict, scrubbed}
 use Rattle.grid_code.specs.Code.{gridCode}
 use Rattle.grid.proofs.Numbers.{decoded-verdict, decoded-number}
 use Rattle.harness.specs.Exports.{packed, decodes, stays}
-use borrow.Author.Needs.{needs}
 use Rattle.harness.proofs.grid_decode.Statement.{statement}
 use Rattle.harness.proofs.grid_decode.Tie as tie
 

@@ -1,7 +1,7 @@
 -- `harness::grid_encode` meets its contract: what was encoded meets the equations. Assumes nothing.
 use mathlib.Core.Path.{sym, subst}
-use Rattle.grid_code.specs.Equations.{Codeword}
 use borrow.Author.Needs.{needs}
+use Rattle.grid_code.specs.Equations.{Codeword}
 use Rattle.harness.proofs.grid_encode.Statement.{statement}
 use Rattle.harness.proofs.grid_encode.Tie as tie
 

@@ -3,8 +3,8 @@ use mathlib.Core.Path.{sym, ap}
 use mathlib.Core.List.{List}
 use Prim.Native.Nat.{ℕ}
 use lib.ListN.{getD, List·getD-eq-default}
-use Rattle.words.specs.Fields.{fields}
 use borrow.Author.Needs.{needs}
+use Rattle.words.specs.Fields.{fields}
 use Rattle.harness.proofs.grid_row.Statement.{statement}
 use Rattle.harness.proofs.grid_row.Tie as tie
 

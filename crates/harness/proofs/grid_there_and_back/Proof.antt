@@ -1,8 +1,8 @@
 -- `harness::grid_there_and_back` meets its contract: the fields of a word make it up. Assumes nothing.
 use mathlib.Core.Path.{ap, _∙_}
+use borrow.Author.Needs.{needs}
 use Rattle.words.specs.Fields.{joined}
 use Rattle.words.proofs.Fields.{joined-fields}
-use borrow.Author.Needs.{needs}
 use Rattle.harness.proofs.grid_there_and_back.Statement.{statement}
 use Rattle.harness.proofs.grid_there_and_back.Tie as tie
 

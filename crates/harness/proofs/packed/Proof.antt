@@ -1,8 +1,8 @@
 -- `harness::packed` meets its contract. Assumes nothing.
 use mathlib.Core.Path.{sym, ap}
+use borrow.Author.Needs.{needs}
 use Rattle.grid.specs.Answer.{means}
 use Rattle.harness.specs.Exports.{packed}
-use borrow.Author.Needs.{needs}
 use Rattle.harness.proofs.packed.Statement.{statement}
 use Rattle.harness.proofs.packed.Tie as tie
 

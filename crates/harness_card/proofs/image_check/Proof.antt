@@ -1,7 +1,7 @@
 -- `harness_card::image_check` meets its contract. Assumes nothing.
 use mathlib.Core.Path.{sym, ap, _∙_}
-use Rattle.harness_card.specs.Exports.{checkGives}
 use borrow.Author.Needs.{needs}
+use Rattle.harness_card.specs.Exports.{checkGives}
 use Rattle.harness_card.proofs.image_check.Statement.{statement}
 use Rattle.harness_card.proofs.image_check.Tie as tie
 

@@ -1,7 +1,7 @@
 -- `harness_card::image_read` meets its contract. Assumes nothing.
 use mathlib.Core.Path.{sym, ap, _∙_}
-use Rattle.harness_card.specs.Exports.{readGives}
 use borrow.Author.Needs.{needs}
+use Rattle.harness_card.specs.Exports.{readGives}
 use Rattle.harness_card.proofs.image_read.Statement.{statement}
 use Rattle.harness_card.proofs.image_read.Tie as tie
 

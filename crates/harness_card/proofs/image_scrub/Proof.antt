@@ -4,9 +4,9 @@ use mathlib.Core.List.{[], _∷_}
 use native.Mathlib.Omega.{arith}
 use lib.ListN.{length, length-set}
 use denote.Ref.{now}
+use borrow.Author.Needs.{needs}
 use Rattle.words.proofs.Turns.{stored}
 use Rattle.harness_card.specs.Exports.{scrubGives, shown, scrubs, stays}
-use borrow.Author.Needs.{needs}
 use Rattle.harness_card.proofs.image_scrub.Statement.{statement}
 use Rattle.harness_card.proofs.image_scrub.Tie as tie
 

@@ -1,7 +1,7 @@
 -- `harness_card::image_write` meets its contract. Assumes nothing.
 use mathlib.Core.Path.{sym, ap, _∙_}
-use Rattle.harness_card.specs.Exports.{writeGives}
 use borrow.Author.Needs.{needs}
+use Rattle.harness_card.specs.Exports.{writeGives}
 use Rattle.harness_card.proofs.image_write.Statement.{statement}
 use Rattle.harness_card.proofs.image_write.Tie as tie
 

@@ -11,6 +11,7 @@ use borrow.Fn.Kinds.{In}
 use borrow.Fn.PlainCycle.{Measures, is, falls, and}
 use Rattle.words.proofs.Lists.{part-behind, length-part}
 use Rattle.fields.proofs.Fields.{known}
+use Rattle.fields.proofs.front.Reads as front-reads
 use Rattle.image.specs.declared.Outcome.the-variants.{Sound, Broken}
 use Rattle.image.specs.Card.{sound, broken, walk as walkOf}
 use Rattle.image.specs.Steps.{counted}
@@ -18,7 +19,6 @@ use Rattle.image.proofs.Walking.{full-grids, full-block, walk-end, walk
 use Rattle.image.proofs.walk.Reads as walk
 use Rattle.image.proofs.walk.Kinds as walk-kinds
 use Rattle.image.proofs.+walk.Lts-walk as lts
-use Rattle.fields.proofs.front.Reads as front-reads
 use Rattle.image.proofs.+walk.{statement}
 use Rattle.image.proofs.+walk.Tie.{close}
 

@@ -7,6 +7,7 @@ use native.Mathlib.Omega.{arith}
 use lib.ListN.{length, drop}
 use denote.Ref.{now}
 use borrow.Author.Tests.{le-leb, lt-leb}
+use borrow.Author.Needs.{needs}
 use Rattle.words.specs.Word.{choose}
 use Rattle.words.proofs.Lists.{part-behind, length-part}
 use Rattle.fields.specs.Fields.{value}
@@ -16,7 +17,6 @@ use Rattle.image.specs.Card.{Card, Found, walk, cardOf}
 use Rattle.image.specs.Calls.{byFound, judged, counts}
 use Rattle.image.specs.Steps.{counted}
 use Rattle.image.proofs.Walking.{card-titled, card-none, counted-whole}
-use borrow.Author.Needs.{needs}
 use Rattle.image.proofs.check.Statement.{statement}
 use Rattle.image.proofs.check.Tie as tie
 

@@ -5,11 +5,11 @@ use Prim.Native.Nat.{ℕ, _+_, _-_}
 use native.Mathlib.Omega.{arith}
 use lib.ListN.{take, drop}
 use denote.Ref.{now}
+use borrow.Author.Needs.{needs}
 use Rattle.fields.specs.Fields.{size}
 use Rattle.fields.proofs.Fields.{known}
 use Rattle.image.specs.Calls.{titleIn}
 use Rattle.image.proofs.Walking.{untitled}
-use borrow.Author.Needs.{needs}
 use Rattle.image.proofs.title.Statement.{statement}
 use Rattle.image.proofs.title.Tie as tie
 

@@ -10,6 +10,7 @@ use lib.ListN.{length, set, take, length-set}
 use lib.Seq.{take-all, set-getD}
 use borrow.Author.Tests.{le-leb, lt-leb}
 use denote.Ref.{now}
+use borrow.Author.Needs.{needs}
 use Rattle.words.specs.Word.{choose}
 use Rattle.words.proofs.Lists.{partly, partly-none, partly-all}
 use Rattle.codes.specs.Verdict.{scrubbed}
@@ -18,7 +19,6 @@ use Rattle.grid_code.specs.Code.{gridCode}
 use Rattle.page.specs.Calls.{tallyOf}
 use Rattle.page.specs.declared.Outcome.the-variants.{Done, Length}
 use Rattle.page.proofs.Laws.{turn-page, turn-tally, turn-roomy}
-use borrow.Author.Needs.{needs}
 use Rattle.page.proofs.scrub.Statement.{statement}
 use Rattle.page.proofs.scrub.Tie as tie
 

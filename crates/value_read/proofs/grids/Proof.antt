@@ -6,13 +6,13 @@ use native.Mathlib.Omega.{arith}
 use lib.ListN.{length, set, take, length-set, length-map}
 use lib.Seq.{take-all}
 use denote.Ref.{now}
+use borrow.Author.Needs.{needs}
 use Rattle.words.specs.Fields.{joined}
 use Rattle.words.specs.Bytes.{wordsIn, laid}
 use Rattle.words.proofs.Lists.{length-part}
 use Rattle.words.proofs.Bytes.{length-words, laid-none}
 use Rattle.words.proofs.Turns.{word-there, map-turn}
 use Rattle.value_read.specs.Shown.{dataOfGrid, flipsOfGrid}
-use borrow.Author.Needs.{needs}
 use Rattle.value_read.proofs.grids.Statement.{statement}
 use Rattle.value_read.proofs.grids.Tie as tie
 

@@ -5,17 +5,17 @@ use mathlib.Core.List.{[], _∷_}
 use native.Mathlib.Omega.{arith}
 use types.Run.{OneOf}
 use denote.Enum.Declared.{tagOf}
+use borrow.Author.Needs.{needs}
 use Rattle.words.specs.Fields.{joined}
 use Rattle.codes.specs.Verdict.{flipsOf}
 use Rattle.codes.proofs.Tally.{few-flips}
-use Rattle.grid.specs.Answer.{means}
 use Rattle.grid_code.specs.Code.{gridCode}
+use Rattle.grid_code.proofs.Promises.{promised}
+use Rattle.grid.specs.Answer.{means}
 use Rattle.grid.specs.declared.Verdict.{Verdict}
 use Rattle.grid.specs.declared.Verdict.the-variants.{Clean, Mended, Lost, Tie}
 use Rattle.grid.proofs.Verdict.{the-type}
-use Rattle.grid_code.proofs.Promises.{promised}
 use Rattle.value_read.specs.Shown.{dataShown, flipsShown}
-use borrow.Author.Needs.{needs}
 use Rattle.value_read.proofs.show.Statement.{statement}
 use Rattle.value_read.proofs.show.Tie as tie
 

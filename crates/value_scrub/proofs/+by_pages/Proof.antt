@@ -6,11 +6,11 @@ use native.Mathlib.Omega.{arith}
 use lib.ListN.{length, take, drop, length-append, length-drop}
 use lib.Seq.{length-take-le}
 use denote.Ref.{now}
-use Rattle.words.proofs.Lists.{length-part}
-use Rattle.value_scrub.proofs.Scrubs.{grids-roomy, grids-parts}
 use borrow.Author.Needs.{needs}
 use borrow.Fn.Kinds.{In}
 use borrow.Fn.PlainCycle.{Measures, is, falls, and}
+use Rattle.words.proofs.Lists.{length-part}
+use Rattle.value_scrub.proofs.Scrubs.{grids-roomy, grids-parts}
 use Rattle.value_scrub.proofs.by_pages.Reads as by-pages
 use Rattle.value_scrub.proofs.by_pages.Kinds as by-pages-kinds
 use Rattle.value_scrub.proofs.+by_pages.Lts-by_pages as lts

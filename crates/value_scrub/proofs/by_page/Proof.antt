@@ -4,11 +4,11 @@ use Prim.Native.Nat.{_≤_}
 use native.Mathlib.Omega.{arith}
 use lib.ListN.{length}
 use denote.Ref.{now}
+use borrow.Author.Needs.{needs}
 use Rattle.words.proofs.Bytes.{length-words}
 use Rattle.page.specs.Calls.{Scrubbed, numberOf}
 use Rattle.page.proofs.Promises.{promised}
 use Rattle.value_scrub.proofs.Scrubs.{page-written, page-kept}
-use borrow.Author.Needs.{needs}
 use Rattle.value_scrub.proofs.by_page.Statement.{statement}
 use Rattle.value_scrub.proofs.by_page.Tie as tie
 

@@ -3,11 +3,11 @@ use mathlib.Core.Path.{ap, _∙_, subst}
 use Prim.Native.Nat.{ℕ}
 use native.Mathlib.Omega.{arith}
 use denote.Ref.{now}
+use borrow.Author.Needs.{needs}
 use Rattle.words.specs.Bytes.{wordsIn}
 use Rattle.value_scrub.specs.declared.Blocks.{Blocks}
 use Rattle.value_scrub.specs.Steps.{ScrubbedBlock}
 use Rattle.value_scrub.proofs.Scrubs.{ofAnswer, not-mended, words-written, words-kept}
-use borrow.Author.Needs.{needs}
 use Rattle.value_scrub.proofs.by_words.Statement.{statement}
 use Rattle.value_scrub.proofs.by_words.Tie as tie
 

@@ -1,7 +1,7 @@
 -- `values::grid_at` meets its contract. Assumes nothing.
 use denote.Ref.{now}
-use Rattle.words.proofs.Turns.{first}
 use borrow.Author.Needs.{needs}
+use Rattle.words.proofs.Turns.{first}
 use Rattle.values.proofs.grid_at.Statement.{statement}
 use Rattle.values.proofs.grid_at.Tie as tie
 

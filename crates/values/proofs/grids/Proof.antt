@@ -5,12 +5,12 @@ use native.Mathlib.Omega.{arith}
 use lib.ListN.{length, set, take, length-set}
 use lib.Seq.{take-all}
 use denote.Ref.{now}
+use borrow.Author.Needs.{needs}
 use Rattle.words.specs.Fields.{joined}
 use Rattle.words.specs.Bytes.{wordsIn, laid}
 use Rattle.words.proofs.Lists.{length-part}
 use Rattle.words.proofs.Bytes.{length-words, laid-none, laid-all}
 use Rattle.words.proofs.Turns.{word-there, place-turn}
-use borrow.Author.Needs.{needs}
 use Rattle.values.proofs.grids.Statement.{statement}
 use Rattle.values.proofs.grids.Tie as tie
 

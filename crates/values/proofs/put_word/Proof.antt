@@ -1,8 +1,8 @@
 -- `values::put_word` meets its contract: two stores. Assumes nothing.
 use denote.Ref.{now}
+use borrow.Author.Needs.{needs}
 use Rattle.words.specs.Fields.{fields}
 use Rattle.words.proofs.Turns.{stored}
-use borrow.Author.Needs.{needs}
 use Rattle.values.proofs.put_word.Statement.{statement}
 use Rattle.values.proofs.put_word.Tie as tie
 

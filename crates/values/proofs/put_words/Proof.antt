@@ -5,11 +5,11 @@ use native.Mathlib.Omega.{arith}
 use lib.ListN.{length, take}
 use lib.Seq.{take-all}
 use denote.Ref.{now}
+use borrow.Author.Needs.{needs}
 use Rattle.words.specs.Bytes.{bytesOf, laid}
 use Rattle.words.proofs.Lists.{length-part}
 use Rattle.words.proofs.Bytes.{length-bytes, laid-all}
 use Rattle.words.proofs.Turns.{no-words, word-turn, length-turn}
-use borrow.Author.Needs.{needs}
 use Rattle.values.proofs.put_words.Statement.{statement}
 use Rattle.values.proofs.put_words.Tie as tie
 

@@ -4,9 +4,9 @@ use Prim.Native.Nat.{_+_, _*_}
 use native.Mathlib.Omega.{arith}
 use lib.ListN.{getD}
 use denote.Ref.{now}
+use borrow.Author.Needs.{needs}
 use Rattle.words.specs.Fields.{joined}
 use Rattle.words.proofs.Turns.{first}
-use borrow.Author.Needs.{needs}
 use Rattle.values.proofs.word_at.Statement.{statement}
 use Rattle.values.proofs.word_at.Tie as tie
 

@@ -1,9 +1,9 @@
 -- `block::Block::encode` meets its contract. Assumes nothing.
 use mathlib.Core.Logic.{inl, inr}
 use native.Mathlib.Omega.{arith}
+use borrow.Author.Needs.{needs}
 use Rattle.block_code.proofs.Distance.{constants}
 use Rattle.block.proofs.Outcomes.{encoded, not-encoded}
-use borrow.Author.Needs.{needs}
 use Rattle.block.proofs.Block.encode.Statement.{statement}
 use Rattle.block.proofs.Block.encode.Tie as tie
 

@@ -5,9 +5,9 @@ use Prim.Native.Nat.{ℕ}
 use lib.ListN.{getD}
 use mir.Syntax.{w8}
 use mir.Val.{Fits}
+use borrow.Author.Needs.{needs}
 use Rattle.grid.specs.Calls.{Judged}
 use Rattle.grid.proofs.Verdicts.{is-clean}
-use borrow.Author.Needs.{needs}
 use Rattle.grid.proofs.Grid.decode.Statement.{statement}
 use Rattle.grid.proofs.Grid.decode.Tie as tie
 

@@ -2,14 +2,14 @@
 use mathlib.Core.Path.{_≡_, sym, ap, _∙_, subst}
 use mathlib.Core.List.{List}
 use Prim.Native.Nat.{ℕ, _^_, _<_}
+use borrow.Author.Needs.{needs}
 use Rattle.words.specs.Fields.{fields, joined}
 use Rattle.words.proofs.Fields.{joined-fields}
 use Rattle.grid_code.specs.Equations.{Codeword}
 use Rattle.grid_code.specs.Code.{codeword}
-use Rattle.grid.specs.Calls.{Encoded}
 use Rattle.grid_code.proofs.Codeword.{is-codeword}
 use Rattle.grid_code.proofs.Promises.{promised}
-use borrow.Author.Needs.{needs}
+use Rattle.grid.specs.Calls.{Encoded}
 use Rattle.grid.proofs.Grid.encode.Statement.{statement}
 use Rattle.grid.proofs.Grid.encode.Tie as tie
 

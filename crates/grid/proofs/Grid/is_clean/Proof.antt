@@ -4,8 +4,8 @@ use Prim.Native.Nat.{ℕ, _^_, _<_}
 use lib.ListN.{getD}
 use mir.Syntax.{w8}
 use mir.Val.{Fits}
-use Rattle.grid.proofs.Verdicts.{is-judged}
 use borrow.Author.Needs.{needs}
+use Rattle.grid.proofs.Verdicts.{is-judged}
 use Rattle.grid.proofs.Grid.is_clean.Statement.{statement}
 use Rattle.grid.proofs.Grid.is_clean.Tie as tie
 

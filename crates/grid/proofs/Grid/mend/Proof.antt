@@ -5,8 +5,8 @@ use native.Mathlib.Omega.{arith}
 use lib.ListN.{getD}
 use mir.Syntax.{w8}
 use mir.Val.{Fits}
-use Rattle.grid.proofs.Verdicts.{is-lost, mends-clean, mends}
 use borrow.Author.Needs.{needs}
+use Rattle.grid.proofs.Verdicts.{is-lost, mends-clean, mends}
 use Rattle.grid.proofs.Grid.mend.Statement.{statement}
 use Rattle.grid.proofs.Grid.mend.Tie as tie
 

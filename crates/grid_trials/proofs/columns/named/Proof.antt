@@ -6,6 +6,7 @@ use native.Mathlib.Omega.{arith}
 use lib.Bits.{bitAnd, bitXor, differ}
 use lib.Dec.{eqb}
 use lib.ListN.{getD}
+use borrow.Author.Needs.{needs}
 use Rattle.words.specs.Word.{choose, bit, combined, sumTo}
 use Rattle.words.proofs.Bit.{bit-lt, bit-xor, bit-and}
 use Rattle.words.proofs.Linear.{digit-combined, combined-lt}
@@ -13,7 +14,6 @@ use Rattle.words.proofs.Sum.{sum-eq}
 use Rattle.words.proofs.Test.{same-pairs}
 use Rattle.grid_code.specs.Equations.{inColumn}
 use Rattle.grid_code.specs.Sides.{colEntries}
-use borrow.Author.Needs.{needs}
 use Rattle.grid_trials.proofs.columns.named.Statement.{statement}
 use Rattle.grid_trials.proofs.columns.named.Tie as tie
 

@@ -3,10 +3,10 @@ use Prim.Native.Nat.{ℕ, _^_, _<_}
 use native.Mathlib.Nat.{lt-of-le-of-lt}
 use lib.Bits.{bitAnd, and-le-r}
 use lib.Dec.{lit<}
+use borrow.Author.Needs.{needs}
 use Rattle.words.proofs.Bit.{and-twice}
 use Rattle.grid_trials.specs.Steps.{Asides}
 use Rattle.grid_trials.proofs.Solving.{filled-fits, solved-one, solved-several}
-use borrow.Author.Needs.{needs}
 use Rattle.grid_trials.proofs.columns.solved.Statement.{statement}
 use Rattle.grid_trials.proofs.columns.solved.Tie as tie
 

@@ -1,7 +1,7 @@
 -- `harness::blocks::block_encode` meets its contract. Assumes nothing.
 use mathlib.Core.Path.{sym, ap}
-use Rattle.block.specs.Answer.{encodeNumberOf}
 use borrow.Author.Needs.{needs}
+use Rattle.block.specs.Answer.{encodeNumberOf}
 use Rattle.harness.proofs.blocks.block_encode.Statement.{statement}
 use Rattle.harness.proofs.blocks.block_encode.Tie as tie
 

@@ -2,9 +2,9 @@
 use mathlib.Core.Path.{sym, ap, _∙_}
 use Prim.Native.Nat.{ℕ, _+_, _*_}
 use native.Mathlib.Nat.{add-zero}
+use borrow.Author.Needs.{needs}
 use Rattle.block.specs.Answer.{numberOf, flipsIn}
 use Rattle.block.specs.declared.Outcome.{Outcome}
-use borrow.Author.Needs.{needs}
 use Rattle.harness.proofs.blocks.block_scrub.Statement.{statement}
 use Rattle.harness.proofs.blocks.block_scrub.Tie as tie
 

@@ -2,10 +2,10 @@
 use mathlib.Core.Path.{ap}
 use native.Mathlib.Nat.{add-zero}
 use native.Mathlib.Omega.{arith}
+use borrow.Author.Needs.{needs}
 use Rattle.codes.specs.Verdict.{flipsOf}
 use Rattle.codes.specs.Tally.{isClean, isMended, isLost}
 use Rattle.grid.specs.Answer.{means}
-use borrow.Author.Needs.{needs}
 use Rattle.page.proofs.Tally.counted.Statement.{statement}
 use Rattle.page.proofs.Tally.counted.Tie as tie
 

@@ -1,10 +1,10 @@
 -- `page::Tally::with_grid` meets its contract: a clean grid stays, any other is put right as its verdict says. Assumes nothing.
 use mathlib.Core.Path.{sym, ap, _∙_, subst}
+use borrow.Author.Needs.{needs}
 use Rattle.grid.specs.Calls.{Judged}
 use Rattle.grid.proofs.Numbers.{decoded-verdict, decoded-number}
 use Rattle.page.specs.Steps.{counted, Roomy}
 use Rattle.page.proofs.Laws.{decoded-clean}
-use borrow.Author.Needs.{needs}
 use Rattle.page.proofs.Tally.with_grid.Statement.{statement}
 use Rattle.page.proofs.Tally.with_grid.Tie as tie
 
