@@ -7,7 +7,8 @@ use lib.ListN.{length}
 use Rattle.words.specs.Bytes.{laid}
 use Rattle.page.specs.declared.Outcome.{Outcome}
 use Rattle.page.specs.declared.Outcome.the-variants.{Done, Length}
-use Rattle.page.specs.Calls.{Scrubbed, numberOf}
+use Rattle.page.specs.Answer.{numberOf}
+use Rattle.page.specs.Calls.{Scrubbed}
 
 -- the five numbers, where the scrub was done
 abbrev pub shown : Outcome → List ℕ → List ℕ

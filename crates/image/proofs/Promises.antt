@@ -17,7 +17,8 @@ use Rattle.fields.proofs.Fields.{past-end, known, found-end}
 use Rattle.image.specs.declared.Outcome.{Outcome}
 use Rattle.image.specs.declared.Outcome.the-variants.{Length, Broken}
 use Rattle.image.specs.Card.{Part, Card, Found, sound, broken, before, walk, named, titled, cardOf, head, frontOf, imageOf}
-use Rattle.image.specs.Calls.{byFound, Checked, counts, numberOf, placeOf, titleIn}
+use Rattle.image.specs.Answer.{numberOf, placeOf}
+use Rattle.image.specs.Calls.{byFound, Checked, counts, titleIn}
 use Rattle.image.specs.Promises.{Proper, Break, no-title, fails, repeated, seventeenth, behind-end, ImagePromises, OneOutcome}
 use Rattle.image.proofs.Judged.{judged-long, judged-as}
 use Rattle.image.proofs.Walking.{full-grids, full-block, walk-end, walk-behind, walk-title, walk-fails}

@@ -29,17 +29,6 @@ counts ps = Sound (length (gridsIn ps)) (length (blocksIn ps))
 pub record Checked (image : List ℕ) (r : Outcome) : Type 0 where
   pub answer : r ≡ judged image Length Broken (λ c. counts (c .parts))
 
--- Document 01's number for each answer, and the place of the break.
-abbrev pub numberOf : Outcome → ℕ
-numberOf (Sound g b) = 0
-numberOf Length = 3
-numberOf (Broken at) = 4
-
-abbrev pub placeOf : Outcome → ℕ
-placeOf (Sound g b) = 0
-placeOf Length = 0
-placeOf (Broken at) = at
-
 -- `image::title`: the value of the first field where that is a title, as it stands in the image, and nothing otherwise.
 abbrev pub titleIn : List ℕ → Field → List ℕ
 titleIn image (Title n) = value image

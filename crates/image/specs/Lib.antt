@@ -1,4 +1,5 @@
 pub mod Card
+pub mod Answer
 pub mod Calls
 pub mod Promises
 pub mod Steps

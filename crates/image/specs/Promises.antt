@@ -11,7 +11,8 @@ use Rattle.fields.specs.declared.Field.the-variants.{Title, Grids, Block, Fails
 use Rattle.fields.specs.Fields.{isTitle, fieldOf}
 use Rattle.image.specs.declared.Outcome.{Outcome}
 use Rattle.image.specs.Card.{Part, grids, block, Card, sound, broken, cardOf, frontOf, imageOf}
-use Rattle.image.specs.Calls.{Checked, Named, counts, numberOf, placeOf}
+use Rattle.image.specs.Answer.{numberOf, placeOf}
+use Rattle.image.specs.Calls.{Checked, Named, counts}
 
 -- A card that can stand in an image: a title of 1 to 24 bytes, each 20 to 7E hex; at most 16 data fields, each of at most 512 grids or of
 -- one block.

@@ -18,7 +18,8 @@ use Rattle.grid_code.proofs.Promises as grid
 use Rattle.page.specs.declared.Tally.{Tally}
 use Rattle.page.specs.declared.Outcome.{Outcome}
 use Rattle.page.specs.declared.Outcome.the-variants.{Done, Length}
-use Rattle.page.specs.Calls.{tallyOf, Scrubbed, numberOf}
+use Rattle.page.specs.Answer.{numberOf}
+use Rattle.page.specs.Calls.{tallyOf, Scrubbed}
 use Rattle.page.specs.Promises.{Again, PagePromises, OneOutcome}
 
 -- ---- both sides of the limit

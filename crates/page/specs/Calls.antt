@@ -27,8 +27,3 @@ tallyOf page = record {
 pub record Scrubbed (before : List ℕ) (r : Outcome) (exit : List ℕ) : Type 0 where
   pub answer : r ≡ choose (leb (length before) 512) (Done (tallyOf before)) Length
   pub after : exit ≡ choose (leb (length before) 512) (map (scrubbed gridCode) before) before
-
--- Document 01's number for each answer: 0 where the scrub was done, 3 for a length that is not allowed.
-abbrev pub numberOf : Outcome → ℕ
-numberOf (Done tally) = 0
-numberOf Length = 3

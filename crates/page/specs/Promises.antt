@@ -8,7 +8,8 @@ use Rattle.grid_code.specs.Code.{codeword, gridCode}
 use Rattle.page.specs.declared.Tally.{Tally}
 use Rattle.page.specs.declared.Outcome.{Outcome}
 use Rattle.page.specs.declared.Outcome.the-variants.{Done}
-use Rattle.page.specs.Calls.{Scrubbed, numberOf}
+use Rattle.page.specs.Answer.{numberOf}
+use Rattle.page.specs.Calls.{Scrubbed}
 
 -- what a second scrub finds
 pub record Again (first second : Tally) : Type 0 where

@@ -14,7 +14,8 @@ use Rattle.fields.proofs.Fields.{Stands, known, length-value}
 use Rattle.image.specs.declared.Outcome.{Outcome}
 use Rattle.image.specs.declared.Outcome.the-variants.{Sound, Length, Broken}
 use Rattle.image.specs.Card.{Part, Card, gridsIn, Found, sound, broken, walk, named, titled, cardOf}
-use Rattle.image.specs.Calls.{byFound, counts, Checked, numberOf, placeOf}
+use Rattle.image.specs.Answer.{numberOf, placeOf}
+use Rattle.image.specs.Calls.{byFound, counts, Checked}
 use Rattle.image.proofs.Walking.{card-titled}
 use Rattle.values.specs.Steps.{Walks}
 use Rattle.values.proofs.Walks.{never}

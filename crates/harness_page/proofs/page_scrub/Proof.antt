@@ -6,7 +6,7 @@ use lib.ListN.{length, length-set}
 use denote.Ref.{now}
 use borrow.Author.Needs.{needs}
 use Rattle.words.proofs.Turns.{stored}
-use Rattle.page.specs.Calls.{numberOf}
+use Rattle.page.specs.Answer.{numberOf}
 use Rattle.harness_page.specs.Exports.{shown, scrubs, stays}
 use Rattle.harness_page.proofs.page_scrub.Statement.{statement}
 use Rattle.harness_page.proofs.page_scrub.Tie as tie

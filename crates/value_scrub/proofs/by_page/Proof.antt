@@ -6,7 +6,8 @@ use lib.ListN.{length}
 use denote.Ref.{now}
 use borrow.Author.Needs.{needs}
 use Rattle.words.proofs.Bytes.{length-words}
-use Rattle.page.specs.Calls.{Scrubbed, numberOf}
+use Rattle.page.specs.Answer.{numberOf}
+use Rattle.page.specs.Calls.{Scrubbed}
 use Rattle.page.proofs.Promises.{promised}
 use Rattle.value_scrub.proofs.Scrubs.{page-written, page-kept}
 use Rattle.value_scrub.proofs.by_page.Statement.{statement}
