@@ -16,17 +16,22 @@ pub fn data_places(value: u16) -> u32
     (pairs ^ (pairs << 4)) & 0x0F0F_0F0F
 }
 
-// Rows 0 to 3 from their data places, all four rows at a time: each data place, times the row that has
-// no other. Place 4 is set in it if the data place is one of 0, 1, 2, place 5 if one of 0, 2, 3, place 6 if
-// one of 1, 2, 3, and place 7 if an odd number of places is set before it.
+// Rows 0 to 3 from their data places, all four rows at a time: each data place, set once more wherever it
+// counts. Place 4 is the parity of places 0, 1, 2, place 5 that of 0, 2, 3, place 6 that of 1, 2, 3; so place 7,
+// that of all before it, is that of 0, 1, 3. No two of the places set meet, so a sum sets them, and the
+// compiler makes one product of it.
 pub fn upper(places: u32) -> u32
     ensures { λ r. ⌜ ((d : ℕ) → d < 2 ^ 16 → places ≡ bitAnd (codeword d) 0x0F0F_0F0F → r ≡ codeword d % 2 ^ 32) ⌝ }
 {
     let lowest = 0x0101_0101;
-    ((places & lowest) * 0xB1)
-        ^ (((places >> 1) & lowest) * 0xD2)
-        ^ (((places >> 2) & lowest) * 0x74)
-        ^ (((places >> 3) & lowest) * 0xE8)
+    let a = places & lowest;
+    let b = (places >> 1) & lowest;
+    let c = (places >> 2) & lowest;
+    let d = (places >> 3) & lowest;
+    (a + (a << 4) + (a << 5) + (a << 7))
+        ^ ((b << 1) + (b << 4) + (b << 6) + (b << 7))
+        ^ ((c << 2) + (c << 4) + (c << 5) + (c << 6))
+        ^ ((d << 3) + (d << 5) + (d << 6) + (d << 7))
 }
 
 // Rows 4 to 7 from rows 0 to 3. Each of them is the parity of all four but one: row 4 leaves out

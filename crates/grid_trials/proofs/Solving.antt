@@ -49,7 +49,7 @@ module _ (aside : ℕ) (fits : aside < 2 ^ 64) (p : Asides aside) where
       (rowOf aside r) (aside-lt r hr)
       ∙ sym (bit-fields 8 8 aside r 0 hr (omega arith))
 
-  pub filled-fits : aside * 255 < 2 ^ 64
+  filled-fits : aside * 255 < 2 ^ 64
   filled-fits = omega (arith, sym p, and-le-r aside 0x0101_0101_0101_0101)
 
 -- ---- the step

@@ -1,7 +1,7 @@
 // A trial's step over the columns, all eight at a time. A word has row r in byte r, so what is done to
 // bytes is done to every column alike.
 ghost use mathlib.Core.Path.{_≡_};
-ghost use Prim.Native.Nat.{ℕ, _%_, _<_};
+ghost use Prim.Native.Nat.{ℕ, _*_, _%_, _<_};
 ghost use lib.Bits.{bitAnd};
 ghost use lib.Dec.{eqb};
 ghost use lib.ListN.{getD};
@@ -41,6 +41,16 @@ fn first_row(aside: u64) -> u64
     255 << u64::trailing_zeros(aside)
 }
 
+// All places of the rows set aside.
+fn filled(aside: u64) -> u64
+    requires { ⌜ Asides aside ⌝ }
+    ensures { λ r. ⌜ r ≡ aside * 255 ⌝ }
+{
+    let twos = aside ^ (aside << 1);
+    let fours = twos ^ (twos << 2);
+    fours ^ (fours << 4)
+}
+
 // The rows put right, in each column in which a codeword agrees with them. The rows that have place 0
 // marked are set aside. In a column of even parity the first of them is switched, so that all columns are
 // odd, and one place of each is named. With one row set aside or none, that place is the last one wrong.
@@ -53,7 +63,7 @@ pub fn solved(rows: u64, marks: u64) -> u64
     let even = spread(rows) ^ 0xFFFF_FFFF_FFFF_FFFF;
     let odd = rows ^ (first & even);
     let at = named(odd);
-    let all = aside * 255;
+    let all = filled(aside);
     if all & first == all {
         return odd ^ at;
     }

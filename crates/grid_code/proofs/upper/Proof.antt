@@ -1,8 +1,8 @@
 -- `grid_code::upper` meets its contract: both sides are linear in the data, and agree at each data bit. Assumes nothing.
-use mathlib.Core.Path.{_≡_, ap, _∙_}
-use Prim.Native.Nat.{ℕ, _/_, _%_, _^_, _<_}
+use mathlib.Core.Path.{_≡_, ap, ap₂, _∙_}
+use Prim.Native.Nat.{ℕ, _+_, _*_, _/_, _%_, _^_, _≤_, _<_}
 use native.Mathlib.Omega.{arith}
-use lib.Bits.{bitAnd, and-le-r}
+use lib.Bits.{bitAnd, bitXor, and-le-r}
 use lib.Dec.{T, ltb, eqb}
 use Rattle.words.proofs.Test.{allBelow}
 use Rattle.words.proofs.Linear.{Linear, same, _⊕_, shr, times, low, mask, then, agree}
@@ -11,7 +11,7 @@ use Rattle.grid_code.proofs.Codeword.{grids}
 use Rattle.grid_code.proofs.upper.Statement.{statement}
 use Rattle.grid_code.proofs.upper.Tie as tie
 
--- what the code computes, by the four rows that it has
+-- what the code computes, by the rows of one data place each
 module _ (h i j k : ℕ) (p : T (ltb h 256)) (q : T (ltb i 256)) (r : T (ltb j 256)) (s : T (ltb k 256)) where
   abbrev made : Linear
   made = times same 4 h p ⊕ times (shr same 1) 4 i q ⊕ times (shr same 2) 4 j r ⊕ times (shr same 3) 4 k s
@@ -22,21 +22,39 @@ module _ (h i j k : ℕ) (p : T (ltb h 256)) (q : T (ltb i 256)) (r : T (ltb j 2
   unfolding codeword
   rows-made t places d l e = ap (made .at) e ∙ agree (then (mask grids 0x0F0F_0F0F) made) (low grids 32) 16 t d l
 
-mul-result : tie.Need-mul-result
-mul-result c = omega (arith, and-le-r (c .args .places) 0x0101_0101)
+-- places that are set by sums, as products
+module _ (x : ℕ) where
+  abbrev place : ℕ
+  place = bitAnd x 0x0101_0101
 
-mul-result-2 : tie.Need-mul-result-2
-mul-result-2 c = omega (arith, and-le-r (c .args .places / 2) 0x0101_0101)
+  small : place ≤ 0x0101_0101
+  small = and-le-r x 0x0101_0101
 
-mul-result-3 : tie.Need-mul-result-3
-mul-result-3 c = omega (arith, and-le-r (c .args .places / 4) 0x0101_0101)
+  place0 : place + place * 2 ^ 4 % 2 ^ 32 + place * 2 ^ 5 % 2 ^ 32 + place * 2 ^ 7 % 2 ^ 32 ≡ place * 0xB1
+  place0 = omega (arith, small)
 
-mul-result-4 : tie.Need-mul-result-4
-mul-result-4 c = omega (arith, and-le-r (c .args .places / 8) 0x0101_0101)
+  place1 : place * 2 ^ 1 % 2 ^ 32 + place * 2 ^ 4 % 2 ^ 32 + place * 2 ^ 6 % 2 ^ 32 + place * 2 ^ 7 % 2 ^ 32 ≡ place * 0xD2
+  place1 = omega (arith, small)
+
+  place2 : place * 2 ^ 2 % 2 ^ 32 + place * 2 ^ 4 % 2 ^ 32 + place * 2 ^ 5 % 2 ^ 32 + place * 2 ^ 6 % 2 ^ 32 ≡ place * 0x74
+  place2 = omega (arith, small)
+
+  place3 : place * 2 ^ 3 % 2 ^ 32 + place * 2 ^ 5 % 2 ^ 32 + place * 2 ^ 6 % 2 ^ 32 + place * 2 ^ 7 % 2 ^ 32 ≡ place * 0xE8
+  place3 = omega (arith, small)
 
 returns : tie.Need-returns
 unfolding codeword
-returns c d l e = rows-made _ _ _ _ tt tt tt tt tt (c .args .places) d l e
+returns c d l e =
+    let p : ℕ = c .args .places in
+    ap₂ bitXor (ap₂ bitXor (ap₂ bitXor (place0 p) (place1 (p / 2))) (place2 (p / 4))) (place3 (p / 8))
+    ∙ rows-made 0xB1 0xD2 0x74 0xE8 tt tt tt tt tt p d l e
 
 pub upper-spec : {M : Type 1} → statement M
-upper-spec = tie.close (tie.spec mul-result mul-result-2 mul-result-3 mul-result-4 returns)
+upper-spec =
+    tie.close
+    (tie.spec
+    (λ c. omega (arith, small (c .args .places))) (λ c. omega (arith, small (c .args .places))) (λ c. omega (arith, small (c .args .places)))
+    (λ c. omega (arith, small (c .args .places / 2))) (λ c. omega (arith, small (c .args .places / 2))) (λ c. omega (arith, small (c .args .places / 2)))
+    (λ c. omega (arith, small (c .args .places / 4))) (λ c. omega (arith, small (c .args .places / 4))) (λ c. omega (arith, small (c .args .places / 4)))
+    (λ c. omega (arith, small (c .args .places / 8))) (λ c. omega (arith, small (c .args .places / 8))) (λ c. omega (arith, small (c .args .places / 8)))
+    returns)
