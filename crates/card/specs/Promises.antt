@@ -64,8 +64,7 @@ pub record ScrubPromises : Type 0 where
   pub sums : (s exit : List ℕ) (t : Tallies) → Scrubbed s (Done t) exit
       → (t .grids .grids ≡ t .grids .clean + t .grids .mended + t .grids .lost)
       × (t .blocks .blocks ≡ t .blocks .clean + t .blocks .mended + t .blocks .lost)
-  -- The image stays sound and as long as it was, and holds the scrubbed card: the same title and counts, and lost grids and blocks as they
-  -- were.
+  -- The image stays sound and as long as it was, and holds the scrubbed card: the same title, and as many grids and blocks.
   pub stays : (s exit : List ℕ) (t : Tallies) → Below 8 s → Scrubbed s (Done t) exit
       → (c : Card) × (cardOf s ≡ sound c) × (cardOf exit ≡ sound (scrubbedCard c)) × SameFrame c (scrubbedCard c) × (length exit ≡ length s)
   -- A second scrub changes nothing, and finds 0 mended.

@@ -5,7 +5,7 @@ use mathlib.Core.List.{List, [], _∷_}
 use Prim.Native.Nat.{ℕ, zero, suc, _*_, _^_, _≤_, _<_}
 use lib.Bits.{bitXor}
 use lib.Count.{ones}
-use lib.Dec.{T, ltb, leb, eqb, ltb→lt, leb→le, eqb→eq, lit<}
+use lib.Dec.{T, ltb, leb, eqb, ltb→lt, leb→le, eqb→eq, lit<, lit≤}
 use Rattle.words.specs.Word.{dist, sumTo}
 use Rattle.words.specs.Fields.{fields}
 use Rattle.words.proofs.Dist.{dist-sym}
@@ -25,7 +25,7 @@ use Rattle.block_code.specs.Equations as blocks
 use Rattle.block_code.specs.Code.{odd, stacked, rowsOf, columnsOf, behind, blockCode, codeword as blockOf}
 use Rattle.block_code.proofs.Promises.{promised as block-promised}
 use Rattle.block_code.proofs.Places.{system-columns}
-use Rattle.cases.specs.Cases.{Case, ofGrid, read, ofBlock, cases, Says, Hold}
+use Rattle.cases.specs.Cases.{Case, ofGrid, read, distant, ofBlock, cases, Says, Hold}
 
 -- ---- what is computed
 
@@ -33,13 +33,9 @@ use Rattle.cases.specs.Cases.{Case, ofGrid, read, ofBlock, cases, Says, 
 apart : ℕ → ℕ → ℕ
 apart w d = sumTo 8 (λ r. dist (rowOf w r) (rowOf (codeword d) r))
 
--- data, flips and word are in range, and the flips are the places counted
-near? : ℕ → ℕ → ℕ → Bool
-near? w d n = ltb w (2 ^ 64) && (ltb d (2 ^ 16) && (eqb (apart w d) n && leb n 7))
-
--- a word eight places from the grid of 0 is lost
-lost? : ℕ → Bool
-lost? w = ltb w (2 ^ 64) && eqb (apart w 0) 8
+-- data and word are in range, and that is what is counted
+distant? : ℕ → ℕ → ℕ → Bool
+distant? w d n = ltb w (2 ^ 64) && (ltb d (2 ^ 16) && eqb (apart w d) n)
 
 -- the block of d, with the system parity over the columns: 16 places to count and not 32
 block : ℕ → ℕ
@@ -49,11 +45,12 @@ block d =
 
 right? : Case → Bool
 right? (ofGrid d g) = ltb d (2 ^ 16) && eqb (codeword d) g
-right? (read w (clean d)) = near? w d 0
+right? (read w (clean d)) = distant? w d 0
 right? (read w (mended d zero)) = false
-right? (read w (mended d (suc n))) = near? w d (suc n)
-right? (read w lost) = lost? w
+right? (read w (mended d (suc n))) = distant? w d (suc n) && leb (suc n) 7
+right? (read w lost) = distant? w 0 8
 right? (read w tie) = false
+right? (distant w d n) = distant? w d n
 right? (ofBlock d w) = ltb d (2 ^ 512) && eqb (block d) w
 
 -- ---- and what follows
@@ -66,25 +63,24 @@ counted : (w d : ℕ) → w < 2 ^ 64 → d < 2 ^ 16 → off gridCode w d ≡ apa
 unfolding apart
 counted w d l h = dist-fields 8 8 w (codeword d) l (codeword-lt d h)
 
-near : (w d n : ℕ) → T (near? w d n) → verdict gridCode w ≡ answered d n
-unfolding near?
-near w d n t =
-    let l : w < 2 ^ 64 = ltb→lt w (2 ^ 64) (both-left (ltb w (2 ^ 64)) (ltb d (2 ^ 16) && (eqb (apart w d) n && leb n 7)) t) in
-    let u : T (ltb d (2 ^ 16) && (eqb (apart w d) n && leb n 7)) =
-    both-right (ltb w (2 ^ 64)) (ltb d (2 ^ 16) && (eqb (apart w d) n && leb n 7)) t in
-    let h : d < 2 ^ 16 = ltb→lt d (2 ^ 16) (both-left (ltb d (2 ^ 16)) (eqb (apart w d) n && leb n 7) u) in
-    let v : T (eqb (apart w d) n && leb n 7) = both-right (ltb d (2 ^ 16)) (eqb (apart w d) n && leb n 7) u in
-    let e : off gridCode w d ≡ n = counted w d l h ∙ eqb→eq (apart w d) n (both-left (eqb (apart w d) n) (leb n 7) v) in
-    found gridCode 16 distance (lit< tt) w d h
-    (subst (λ (x : ℕ). x ≤ 7) (sym e) (leb→le n 7 (both-right (eqb (apart w d) n) (leb n 7) v)))
-    ∙ ap (answered d) e
+distance-is : (w d n : ℕ) → T (distant? w d n) → (d < 2 ^ 16) × (off gridCode w d ≡ n)
+unfolding distant?
+distance-is w d n t =
+    let l : w < 2 ^ 64 = ltb→lt w (2 ^ 64) (both-left (ltb w (2 ^ 64)) (ltb d (2 ^ 16) && eqb (apart w d) n) t) in
+    let u : T (ltb d (2 ^ 16) && eqb (apart w d) n) = both-right (ltb w (2 ^ 64)) (ltb d (2 ^ 16) && eqb (apart w d) n) t in
+    let h : d < 2 ^ 16 = ltb→lt d (2 ^ 16) (both-left (ltb d (2 ^ 16)) (eqb (apart w d) n) u) in
+    (h, counted w d l h ∙ eqb→eq (apart w d) n (both-right (ltb d (2 ^ 16)) (eqb (apart w d) n) u))
 
-far : (w : ℕ) → T (lost? w) → verdict gridCode w ≡ lost
-unfolding lost? dist
+near : (w d n : ℕ) → n ≤ 7 → T (distant? w d n) → verdict gridCode w ≡ answered d n
+near w d n few t =
+    let (h, e) = distance-is w d n t in
+    found gridCode 16 distance (lit< tt) w d h (subst (λ (x : ℕ). x ≤ 7) (sym e) few) ∙ ap (answered d) e
+
+-- a word eight places from the grid of 0 is lost
+far : (w : ℕ) → T (distant? w 0 8) → verdict gridCode w ≡ lost
+unfolding dist
 far w t =
-    let l : w < 2 ^ 64 = ltb→lt w (2 ^ 64) (both-left (ltb w (2 ^ 64)) (eqb (apart w 0) 8) t) in
-    let e : ones (bitXor (codeword 0) w) ≡ 8 =
-    dist-sym (codeword 0) w ∙ counted w 0 l (lit< tt) ∙ eqb→eq (apart w 0) 8 (both-right (ltb w (2 ^ 64)) (eqb (apart w 0) 8) t) in
+    let e : ones (bitXor (codeword 0) w) ≡ 8 = dist-sym (codeword 0) w ∙ distance-is w 0 8 t .1 in
     ap (verdict gridCode) (sym (xor-cancel-l (codeword 0) w)) ∙ promised .eight-are-lost 0 (bitXor (codeword 0) w) (lit< tt) e
 
 same-block : (d : ℕ) → d < 2 ^ 512 → blockOf d ≡ block d
@@ -99,11 +95,14 @@ right (ofGrid d g) t =
     let h : d < 2 ^ 16 = ltb→lt d (2 ^ 16) (both-left (ltb d (2 ^ 16)) (eqb (codeword d) g) t) in
     let e : codeword d ≡ g = eqb→eq (codeword d) g (both-right (ltb d (2 ^ 16)) (eqb (codeword d) g) t) in
     (subst (grid.Codeword d) e (is-codeword d h), has gridCode (promised .verdicts) g (clean d) (ap (verdict gridCode) (sym e) ∙ promised .verdicts .unharmed d h))
-right (read w (clean d)) t = has gridCode (promised .verdicts) w (clean d) (near w d 0 t)
+right (read w (clean d)) t = has gridCode (promised .verdicts) w (clean d) (near w d 0 (lit≤ tt) t)
 right (read w (mended d zero)) t = absurd t
-right (read w (mended d (suc n))) t = has gridCode (promised .verdicts) w (mended d (suc n)) (near w d (suc n) t)
+right (read w (mended d (suc n))) t =
+    has gridCode (promised .verdicts) w (mended d (suc n))
+    (near w d (suc n) (leb→le (suc n) 7 (both-right (distant? w d (suc n)) (leb (suc n) 7) t)) (both-left (distant? w d (suc n)) (leb (suc n) 7) t))
 right (read w lost) t = has gridCode (promised .verdicts) w lost (far w t)
 right (read w tie) t = absurd t
+right (distant w d n) t = distance-is w d n t .1
 right (ofBlock d w) t =
     let h : d < 2 ^ 512 = ltb→lt d (2 ^ 512) (both-left (ltb d (2 ^ 512)) (eqb (block d) w) t) in
     let e : blockOf d ≡ w = same-block d h ∙ eqb→eq (block d) w (both-right (ltb d (2 ^ 512)) (eqb (block d) w) t) in (
@@ -116,5 +115,5 @@ each [] t = tt
 each (c ∷ cs) t = (right c (both-left (right? c) (every right? cs) t), each cs (both-right (right? c) (every right? cs) t))
 
 pub cases-hold : Hold cases
-unfolding codeword block stacked right? near? lost? apart dist ones
+unfolding codeword block stacked right? distant? apart dist ones
 cases-hold = each cases tt

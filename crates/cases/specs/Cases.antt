@@ -1,17 +1,19 @@
 -- The worked numbers of document 01: one list, one claim (`cases-hold`). Assumes nothing.
+use mathlib.Core.Path.{_≡_}
 use mathlib.Core.List.{List, [], _∷_}
 use Prim.Native.Nat.{ℕ, _+_, _*_, _^_}
-use Rattle.codes.specs.Verdict.{Verdict, clean, mended, lost, IsVerdict}
+use Rattle.codes.specs.Verdict.{Verdict, clean, mended, lost, off, IsVerdict}
 use Rattle.grid_code.specs.Equations as grid
 use Rattle.grid_code.specs.Code.{gridCode}
 use Rattle.block_code.specs.Equations as block
 use Rattle.block_code.specs.Code.{blockCode}
 
--- ofGrid d g: the grid of the data d is g, and it is clean. read w v: the verdict on the grid w is v. ofBlock d w: the block of the data d
--- is w, and it is clean.
+-- ofGrid d g: the grid of the data d is g, and it is clean. read w v: the verdict on the grid w is v. distant w d n: the grid w is n places
+-- from that of the data d. ofBlock d w: the block of the data d is w, and it is clean.
 pub data Case : Type 0 where
   ofGrid : ℕ → ℕ → Case
   read : ℕ → Verdict → Case
+  distant : ℕ → ℕ → ℕ → Case
   ofBlock : ℕ → ℕ → Case
 
 -- a block, or data, in which word i is x and the others are 0; they are added up
@@ -28,6 +30,8 @@ cases =
     ∷ ofGrid 65535 0xFFFF_FFFF_FFFF_FFFF
     ∷ read 0x0000_00B0_0000_00B1 (mended 0 7)
     ∷ read 0x0000_00B1_0000_00B1 lost
+    ∷ distant 0x0000_00B1_0000_00B1 0 8
+    ∷ distant 0x0000_00B1_0000_00B1 1 8
     ∷ read 0x0000_01B1_0000_00B1 (mended 1 7)
     -- row 0, column 0 only: words 0, 32, 34, 35 are 1, word 37 is 8000
     ∷ ofBlock (word 0 1) (word 0 1 + word 32 1 + word 34 1 + word 35 1 + word 37 0x8000)
@@ -41,6 +45,7 @@ cases =
 abbrev pub Says : Case → Type 0
 Says (ofGrid d g) = grid.Codeword d g × IsVerdict gridCode g (clean d)
 Says (read w v) = IsVerdict gridCode w v
+Says (distant w d n) = off gridCode w d ≡ n
 Says (ofBlock d w) = block.Codeword d w × IsVerdict blockCode w (clean d)
 
 -- the claim: each says what is so

@@ -124,12 +124,12 @@ module _ (C : Code) where
   sum-bound f k h [] = omega arith
   sum-bound f k h (w ∷ ws) = rw (mul-suc, add-comm (k * length ws) k) (add-le-add (h w) (sum-bound f k h ws))
 
-  -- one word more
   pub sum-append : (f : Verdict → ℕ) (xs ys : List ℕ) → sumBy C f (xs ++ ys) ≡ sumBy C f xs + sumBy C f ys
   unfolding sumBy
   sum-append f [] ys = sym (zero-add (sumBy C f ys))
   sum-append f (x ∷ xs) ys = ap (λ (n : ℕ). f (verdict C x) + n) (sum-append f xs ys) ∙ sym (add-assoc (f (verdict C x)) (sumBy C f xs) (sumBy C f ys))
 
+  -- one word more
   pub sum-step : (f : Verdict → ℕ) (ws : List ℕ) (i : ℕ) → i < length ws
       → sumBy C f (take (i + 1) ws) ≡ sumBy C f (take i ws) + f (verdict C (getD ws i 0))
   unfolding sumBy

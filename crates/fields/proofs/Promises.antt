@@ -1,4 +1,4 @@
--- The promises of the calls on a field. Assumes nothing.
+-- What specs/Promises.antt says of the calls on a field holds. Assumes nothing.
 use mathlib.Core.Path.{sym, _∙_}
 use Rattle.fields.specs.Promises.{OneOutcome}
 

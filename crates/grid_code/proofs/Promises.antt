@@ -14,7 +14,7 @@ use Rattle.grid_code.specs.Equations.{dataBit, dataOf, Codeword}
 use Rattle.grid_code.specs.Code.{codeword, gridCode}
 use Rattle.grid_code.specs.Promises.{GridPromises}
 use Rattle.grid_code.proofs.Codeword.{is-codeword, one-solution, one-value}
-use Rattle.grid_code.proofs.Distance.{codeword-lt, distance}
+use Rattle.grid_code.proofs.Distance.{in-product, codeword-lt, distance}
 
 data-is : (d g : ℕ) → d < 2 ^ 16 → Codeword d g → dataOf g ≡ d
 data-is d g h p =
@@ -45,6 +45,7 @@ promised = record {
   one-solution = one-solution;
   one-value = one-value;
   data-places = data-is;
+  in-product = in-product;
   constants = states refl refl (lit≤ tt) (lit≤ tt);
   verdicts = every-code gridCode .promises 16 distance (lit< tt);
   eight-are-lost = every-code gridCode .one-more-is-lost 16 distance (lit≤ tt);

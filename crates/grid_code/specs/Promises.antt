@@ -6,8 +6,10 @@ use lib.ListN.{length, getD}
 use Rattle.words.specs.Word.{bit}
 use Rattle.words.specs.Fields.{fields, joined, Below}
 use Rattle.codes.specs.Promises.{States, Promises, OneMoreIsLost}
+use Rattle.codes.specs.Product.{InProduct}
 use Rattle.grid_code.specs.Equations.{inRow, dataOf, Codeword}
 use Rattle.grid_code.specs.Code.{codeword, gridCode}
+use Rattle.grid_code.specs.Sides.{sides, rowOf}
 
 pub record GridPromises : Type 0 where
   -- Row r is byte r of the number, lowest byte first, and place c of a row is bit c.
@@ -23,6 +25,8 @@ pub record GridPromises : Type 0 where
   pub one-value : (d e g : ℕ) → d < 2 ^ 16 → e < 2 ^ 16 → Codeword d g → Codeword e g → d ≡ e
   -- .. and the data places of a grid are its data.
   pub data-places : (d g : ℕ) → d < 2 ^ 16 → Codeword d g → dataOf g ≡ d
+  -- Each row of a codeword is in the row code and each column in the column code, two codes of distance 4: from that the 16 follow.
+  pub in-product : (d : ℕ) → d < 2 ^ 16 → InProduct sides (rowOf (codeword d))
   -- The constants: radius 7, 64 places; two different codewords differ in at least 16 places, and some in no more.
   pub constants : States gridCode 7 64 16
   -- Demand 3, no tie, and up to seven flips undone; eight are always lost.

@@ -1,5 +1,5 @@
--- The row code and the column code of the grid, by the entries 2 · address + 1 of places 0 to 7: those of the set places combine to 0. No
--- promise to a caller cites this file. Assumes nothing.
+-- The row code and the column code of the grid, by the entries 2 · address + 1 of places 0 to 7: those of the set places combine to 0.
+-- Assumes nothing.
 use mathlib.Core.Path.{_≡_}
 use mathlib.Core.List.{List, [], _∷_}
 use Prim.Native.Nat.{ℕ}

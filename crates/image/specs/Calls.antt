@@ -17,7 +17,7 @@ abbrev pub byFound : {A B : Type 0} → (ℕ → B) → (A → B) → Found A �
 byFound b s (sound a) = s a
 byFound b s (broken at) = b at
 
--- The order of the refusals, for every call on an image: over 32,768 bytes, then broken, then what the card in it gives.
+-- The order of the refusals, for check, scrub and reading back: over 32,768 bytes, then broken, then what the card in it gives.
 abbrev pub judged : {A : Type 0} → List ℕ → A → (ℕ → A) → (Card → A) → A
 judged image long breaks whole = choose (leb (length image) 32768) (byFound breaks whole (cardOf image)) long
 

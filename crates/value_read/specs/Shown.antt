@@ -4,7 +4,7 @@ use Prim.Native.Nat.{ℕ}
 use Rattle.codes.specs.Verdict.{Verdict, clean, mended, lost, tie, verdict}
 use Rattle.grid_code.specs.Code.{gridCode}
 
--- The data of a verdict, 0 if lost, ..
+-- The data of a verdict, 0 if lost (a tie counts as lost), ..
 abbrev pub dataShown : Verdict → ℕ
 dataShown (clean d) = d
 dataShown (mended d n) = d

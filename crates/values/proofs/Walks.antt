@@ -132,7 +132,6 @@ value-is s n e = let k : 3 + n - 3 ≡ size s = omega (arith, e) in ap (λ (m : 
 pub value-long : (s : List ℕ) (n : ℕ) → 3 + n ≤ length s → length (take (3 + n - 3) (drop 3 s)) ≡ n
 value-long s n l = length-take-le (3 + n - 3) (drop 3 s) (omega (arith, length-drop 3 s)) ∙ omega arith
 
--- .. and what is found behind it
 abbrev pub walks-on : (s : List ℕ) (n : ℕ) (w : Walks s) → fieldOf s ≡ Grids n → Walks (drop (3 + n) s)
 walks-on s n w f =
     let front = grids-front (w .at) s (w .parts) (w .left) n f (w .found) in
