@@ -4,8 +4,6 @@
 //
 // specs/Calls.antt says what the call answers and leaves, and specs/Answer.antt document 01's number for each answer. What is shown of a grid
 // is in the crate value_read.
-ghost use Prim.Native.Nat.{_/_};
-ghost use lib.ListN.{length};
 ghost use Rattle.card_read.specs.Calls.{Read};
 ghost use Rattle.card_read.specs.Steps.{ReadsGrids, ReadsFields};
 use fields::Field;

@@ -3,7 +3,6 @@
 //
 // specs/Calls.antt says what a scrub answers and leaves, specs/Promises.antt what is proved of it.
 ghost use mathlib.Core.Path.{_≡_};
-ghost use Prim.Native.Nat.{_+_, _<_};
 ghost use Rattle.codes.specs.Verdict.{verdict, scrubbed};
 ghost use Rattle.grid_code.specs.Code.{gridCode};
 ghost use Rattle.grid.specs.Answer.{means};

@@ -5,8 +5,8 @@ ghost use mathlib.Core.Path.{_≡_};
 ghost use Prim.Native.Nat.{_/_, _≤_};
 ghost use lib.ListN.{length};
 ghost use Rattle.words.specs.Fields.{joined};
-ghost use Rattle.words.specs.Bytes.{wordsIn, laid};
-ghost use Rattle.value_read.specs.Shown.{dataOfGrid, flipsOfGrid, dataOfGrids, flipsOfGrids};
+ghost use Rattle.value_read.specs.Shown.{dataOfGrid, flipsOfGrid};
+ghost use Rattle.value_read.specs.Steps.{ReadValue};
 use grid::Grid;
 use grid::Verdict;
 
@@ -40,8 +40,7 @@ fn show(grid: Grid) -> Shown
 
 // The grids of a value, to the front of the two slices.
 pub fn grids(value: &[u8], numbers: &mut [u16], flips: &mut [u8])
-    ensures { λ r. ⌜ ((length (now (value .entry)) / 8 ≤ length (now (numbers .entry))) → (length (now (value .entry)) / 8 ≤ length (now (flips .entry))) → now (numbers .exit) ≡ laid (dataOfGrids (wordsIn 8 (length (now (value .entry)) / 8) (now (value .entry)))) (now (numbers .entry))) ⌝ }
-    ensures flips { λ r. ⌜ ((length (now (value .entry)) / 8 ≤ length (now (numbers .entry))) → (length (now (value .entry)) / 8 ≤ length (now (flips .entry))) → now (flips .exit) ≡ laid (flipsOfGrids (wordsIn 8 (length (now (value .entry)) / 8) (now (value .entry)))) (now (flips .entry))) ⌝ }
+    ensures { λ r. ⌜ (length (now (value .entry)) / 8 ≤ length (now (numbers .entry)) → length (now (value .entry)) / 8 ≤ length (now (flips .entry)) → ReadValue (now (value .entry)) (now (numbers .entry)) (now (flips .entry)) (now (numbers .exit)) (now (flips .exit))) ⌝ }
 {
     let n = value.len() / 8;
     if numbers.len() < n {

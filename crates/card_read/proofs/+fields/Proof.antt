@@ -155,19 +155,18 @@ module _ (t : ℕ) where
       let part = value-is s n (k .size-is) in
       let room = room-behind s (now (st .args .numbers)) (now (st .args .flips)) n (st .pre .1) f in
       let long = value-long s n (k .room) in
-      let data-read = grids .ensures .0 (omega (arith, long, room)) (omega (arith, long, room)) in
-      let flips-read = grids .ensures .1 (omega (arith, long, room)) (omega (arith, long, room)) in
+      let read = grids .ensures (omega (arith, long, room)) (omega (arith, long, room)) in
       record {
         numbers-after = λ left at ps w.
             let front = grids-front at s ps left n f w in
             let found = ap (walk (less left) (at + (3 + n))) (part-behind (3 + n) s) ∙ front .found in
             read-on s ps n (less left) (at + (3 + n)) f front dataOfGrid (take (3 + n - 3) (drop 3 s)) (now (st .args .numbers)) (grids .last .1 .0)
-            (rest .last .1 .0) part (room .0) data-read (rest .ensures .numbers-after (less left) (at + (3 + n)) (front .behind) found);
+            (rest .last .1 .0) part (room .0) (read .numbers-after) (rest .ensures .numbers-after (less left) (at + (3 + n)) (front .behind) found);
         flips-after = λ left at ps w.
             let front = grids-front at s ps left n f w in
             let found = ap (walk (less left) (at + (3 + n))) (part-behind (3 + n) s) ∙ front .found in
             read-on s ps n (less left) (at + (3 + n)) f front flipsOfGrid (take (3 + n - 3) (drop 3 s)) (now (st .args .flips)) (grids .last .1 .1 .0)
-            (rest .last .1 .1 .0) part (room .1) flips-read (rest .ensures .flips-after (less left) (at + (3 + n)) (front .behind) found);
+            (rest .last .1 .1 .0) part (room .1) (read .flips-after) (rest .ensures .flips-after (less left) (at + (3 + n)) (front .behind) found);
       }
 
   past-block : lts.Need-returns-2 (front-reads.Asked, front-reads.Learnt, grids-reads.Asked, grids-reads.Learnt, fields-below t, fields.Post) (fields-at t) fields.Post

@@ -11,7 +11,7 @@ use Rattle.words.proofs.Lists.{part-behind}
 use Rattle.image.specs.Card.{gridsIn, walk}
 use Rattle.image.specs.Calls.{Checked}
 use Rattle.image.proofs.Promises.{promised}
-use Rattle.values.proofs.Judging.{too-long, broken-at, whole, inside, stands, title-long, walks}
+use Rattle.values.proofs.Judging.{too-long, broken-at, whole, inside, stands, title-long}
 use Rattle.card_read.specs.declared.ReadAnswer.the-variants.{Done}
 use Rattle.card_read.specs.Steps.{ReadsFields}
 use Rattle.card_read.proofs.Readings.{refused-3, refused-4, short-title, short-numbers, short-flips, all-read}
@@ -23,7 +23,6 @@ returns c =
     let st = c .before .before .before .before .before .before .before .before .before .before in
     let s = now (st .args .image) in
     let w = whole s (c .before .before .before .grids .given .0 .0) _ (subst (Checked s) (c .before .before .before .grids .given .1) (c .before .before .before .before .before .check .ensures)) in
-    let i = inside s (w .card) (w .is) in
     let name = promised .title-given s (now (c .before .title .result)) (w .card) (w .is) (c .before .title .ensures) in
     short-title s (now (st .args .title)) (now (st .args .numbers)) (now (st .args .flips)) w (omega (arith, ap length name, c .if1 .taken))
 
@@ -32,7 +31,6 @@ returns-2 c =
     let st = c .before .before .before .before .before .before .before .before .before .before .before in
     let s = now (st .args .image) in
     let w = whole s (c .before .before .before .before .grids .given .0 .0) _ (subst (Checked s) (c .before .before .before .before .grids .given .1) (c .before .before .before .before .before .before .check .ensures)) in
-    let i = inside s (w .card) (w .is) in
     let name = promised .title-given s (now (c .before .before .title .result)) (w .card) (w .is) (c .before .before .title .ensures) in
     short-numbers s (now (st .args .title)) (now (st .args .numbers)) (now (st .args .flips)) w (omega (arith, ap length name, c .before .if1 .left))
     (omega (arith, w .grids, c .if2 .taken))
@@ -42,7 +40,6 @@ returns-3 c =
     let st = c .before .before .before .before .before .before .before .before .before .before .before .before in
     let s = now (st .args .image) in
     let w = whole s (c .before .before .before .before .before .grids .given .0 .0) _ (subst (Checked s) (c .before .before .before .before .before .grids .given .1) (c .before .before .before .before .before .before .before .check .ensures)) in
-    let i = inside s (w .card) (w .is) in
     let name = promised .title-given s (now (c .before .before .before .title .result)) (w .card) (w .is) (c .before .before .before .title .ensures) in
     short-flips s (now (st .args .title)) (now (st .args .numbers)) (now (st .args .flips)) w (omega (arith, ap length name, c .before .before .if1 .left))
     (omega (arith, w .grids, c .before .if2 .left)) (omega (arith, w .grids, c .if3 .taken))

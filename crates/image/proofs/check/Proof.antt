@@ -1,6 +1,5 @@
 -- `image::check` meets its contract. Assumes nothing.
 use mathlib.Core.Path.{_≡_, sym, ap, _∙_}
-use mathlib.Core.Bool.{Bool}
 use mathlib.Core.List.{List}
 use Prim.Native.Nat.{ℕ, _+_, _≤_}
 use native.Mathlib.Omega.{arith}
@@ -8,7 +7,6 @@ use lib.ListN.{length, drop}
 use denote.Ref.{now}
 use borrow.Author.Tests.{le-leb, lt-leb}
 use borrow.Author.Needs.{needs}
-use Rattle.words.specs.Word.{choose}
 use Rattle.words.proofs.Lists.{part-behind, length-part}
 use Rattle.fields.specs.Fields.{value}
 use Rattle.fields.proofs.Fields.{known}
@@ -16,20 +14,19 @@ use Rattle.image.specs.declared.Outcome.the-variants.{Length, Broken}
 use Rattle.image.specs.Card.{Card, Found, walk, cardOf}
 use Rattle.image.specs.Calls.{byFound, judged, counts}
 use Rattle.image.specs.Steps.{counted}
+use Rattle.image.proofs.Judged.{judged-long, judged-as}
 use Rattle.image.proofs.Walking.{card-titled, card-none, counted-whole}
 use Rattle.image.proofs.check.Statement.{statement}
 use Rattle.image.proofs.check.Tie as tie
 
 -- within the length that is allowed, what is found decides
 within : (s : List ℕ) → length s ≤ 32768 → {x : Found Card} → cardOf s ≡ x → judged s Length Broken (λ c. counts (c .parts)) ≡ byFound Broken (λ (c : Card). counts (c .parts)) x
-within s l e =
-    ap (λ (b : Bool). choose b (byFound Broken (λ (c : Card). counts (c .parts)) (cardOf s)) Length) (le-leb (length s) 32768 l)
-    ∙ ap (byFound Broken (λ (c : Card). counts (c .parts))) e
+within s l e = judged-as s Length Broken (λ c. counts (c .parts)) (le-leb (length s) 32768 l) e
 
 returns : tie.Need-returns
 returns c =
     let s : List ℕ = now (c .before .before .args .image) in
-    record { answer = sym (ap (λ (b : Bool). choose b (byFound Broken (λ (c : Card). counts (c .parts)) (cardOf s)) Length) (lt-leb (length s) 32768 (omega arith))) }
+    record { answer = sym (judged-long s Length Broken (λ c. counts (c .parts)) (lt-leb (length s) 32768 (omega arith))) }
 
 room : tie.Need-sub-walk
 room c =

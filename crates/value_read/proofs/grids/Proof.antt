@@ -44,21 +44,22 @@ loop-again c =
     )
 
 returns : tie.Need-returns Inv-loop μ-loop
-returns c = (λ h k. absurd (omega (arith, c .if1 .taken, h)), λ h k. absurd (omega (arith, c .if1 .taken, h)))
+returns c h k = absurd (omega (arith, c .if1 .taken, h))
 
 returns-2 : tie.Need-returns-2 Inv-loop μ-loop
-returns-2 c = (λ h k. absurd (omega (arith, c .if2 .taken, k)), λ h k. absurd (omega (arith, c .if2 .taken, k)))
+returns-2 c h k = absurd (omega (arith, c .if2 .taken, k))
 
 returns-3 : tie.Need-returns-3 Inv-loop μ-loop
-returns-3 c =
+returns-3 c h k =
     let l = c .before .loop in
     let a = c .before .before .before .before .before .before .before .args in
     let n = length (now (a .value)) / 8 in
     let ws = wordsIn 8 n (now (a .value)) in
-    let all : length ws ≤ l .i = omega (arith, length-words 8 n (now (a .value))) in (
-      λ h k. l .inv .1 ∙ ap (λ b. laid b (now (a .numbers))) (take-all (l .i) (map dataOfGrid ws) (omega (arith, length-map ws dataOfGrid))),
-      λ h k. l .inv .3 ∙ ap (λ b. laid b (now (a .flips))) (take-all (l .i) (map flipsOfGrid ws) (omega (arith, length-map ws flipsOfGrid))),
-    )
+    let all : length ws ≤ l .i = omega (arith, length-words 8 n (now (a .value))) in
+    record {
+      numbers-after = l .inv .1 ∙ ap (λ b. laid b (now (a .numbers))) (take-all (l .i) (map dataOfGrid ws) (omega (arith, length-map ws dataOfGrid)));
+      flips-after = l .inv .3 ∙ ap (λ b. laid b (now (a .flips))) (take-all (l .i) (map flipsOfGrid ws) (omega (arith, length-map ws flipsOfGrid)));
+    }
 
 pub grids-spec : {M : Type 1} → statement M
 grids-spec =
