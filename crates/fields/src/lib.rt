@@ -8,8 +8,8 @@
 // A field is its tag, two length bytes, high byte first, and its value. How many of them an image has, and in
 // which order, the crate image says.
 //
-// specs/Fields.antt has the rules, specs/Calls.antt what each call promises, and specs/Promises.antt that no
-// second outcome satisfies it.
+// specs/Fields.antt has the rules, specs/Calls.antt what each call promises, and specs/Promises.antt what is
+// proved of it.
 ghost use mathlib.Core.Path.{_≡_};
 ghost use Prim.Native.Nat.{_≤_, _<_};
 ghost use lib.ListN.{length};

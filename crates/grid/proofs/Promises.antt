@@ -5,23 +5,26 @@ use mathlib.Core.List.{List}
 use Prim.Native.Nat.{ℕ, _^_, _≤_, _<_}
 use lib.Bits.{bitXor, xor-lt}
 use lib.Count.{ones}
+use lib.Dec.{eqb}
 use lib.ListN.{length, getD}
 use Rattle.words.specs.Word.{dist}
 use Rattle.words.specs.Fields.{fields, joined}
 use Rattle.words.proofs.Fields.{joined-lt, joined-fields, fields-joined}
 use Rattle.codes.specs.Verdict.{Verdict, clean, mended, lost, tie, IsVerdict, answered, verdict, flipsOf, refusal, repaired, scrubbed}
 use Rattle.codes.specs.Promises.{Demand3}
-use Rattle.codes.proofs.Promises.{answered-repaired}
+use Rattle.codes.specs.Tally.{isClean}
+use Rattle.codes.proofs.Promises.{answered-repaired, clean-word}
 use Rattle.codes.proofs.Tally.{one-refusal, as-it-was, scrubbed-lt}
 use Rattle.grid_code.specs.Code.{codeword, gridCode}
 use Rattle.grid_code.proofs.Promises.{promised}
 use Rattle.grid_code.proofs.Distance.{codeword-lt}
 use Rattle.grid.specs.Answer.{means, numberOf}
 use Rattle.grid.specs.Calls.{Decoded}
-use Rattle.grid.specs.Promises.{DecodePromises, OneOutcome}
+use Rattle.grid.specs.Promises.{DecodePromises, CleanPromises, OneOutcome}
 use Rattle.grid.specs.declared.Answer.{Answer}
 use Rattle.grid.specs.declared.Verdict as enum
 use Rattle.grid.specs.declared.Verdict.the-variants.{Clean, Mended, Lost, Tie}
+use Rattle.grid.proofs.Verdicts.{judged-clean}
 
 module _ (rows : List ℕ) (r : Answer) (h : Decoded rows r) where
   numbers : (numberOf (r .verdict) ≡ 0) ⊎ (numberOf (r .verdict) ≡ 1)
@@ -101,6 +104,15 @@ decode-promised = record {
       let (v, g) =
       of-word (fields 8 8 (bitXor (codeword d) p)) r h (bitXor (codeword d) p) lost (flipped d p l k) (promised .eight-are-lost d p l e) in
       (v, ap (refusal 1) v, g);
+}
+
+pub clean-promised : CleanPromises
+clean-promised = record {
+  codewords = λ rows d r l e j. j .answer ∙ ap (λ v. eqb (isClean v) 1) (ap (verdict gridCode) e ∙ promised .verdicts .unharmed d l);
+  nothing-else = λ rows j.
+      let (d, v) = judged-clean rows j in
+      let (l, e) = clean-word gridCode (promised .verdicts) (joined 8 rows) d v in
+      (d, l, e);
 }
 
 pub one-outcome : OneOutcome

@@ -40,6 +40,10 @@ module _ (w places e : ℕ) (below : e < 2 ^ 16) (taken : places ≡ bitAnd w 0x
       (read (ap (λ (x : ℕ). bitAnd x 0x0F0F_0F0F) taken ∙ and-twice 32 w 0x0F0F_0F0F (lit< tt) ∙ sym taken)
       ∙ taken ∙ ap (λ (x : ℕ). bitAnd x 0x0F0F_0F0F) s)
 
+pub judged-clean : (rows : List ℕ) → Judged rows true → (d : ℕ) × (verdict gridCode (joined 8 rows) ≡ clean d)
+judged-clean rows j =
+    clean-of (verdict gridCode (joined 8 rows)) (eqb-true (isClean (verdict gridCode (joined 8 rows))) 1 (sym (j .answer)))
+
 module _ (rows : List ℕ) (eight : length rows ≡ 8) (small : Below 8 rows) (word : ℕ) (is : word ≡ joined 8 rows) where
   as-read : fields 8 8 (joined 8 rows) ≡ rows
   as-read = promised .back-and-there rows eight small
@@ -71,7 +75,7 @@ module _ (rows : List ℕ) (eight : length rows ≡ 8) (small : Below 8 rows) (w
       → (bitAnd places 0x0F0F_0F0F ≡ places → bitAnd (codeword data₁) 0x0F0F_0F0F ≡ places) → Judged rows true
       → Decoded rows (record { verdict = Clean data₁; grid = record { rows = rows } })
   is-clean places e l taken read j =
-      let (d, p) = clean-of (verdict gridCode (joined 8 rows)) (eqb-true (isClean (verdict gridCode (joined 8 rows))) 1 (sym (j .answer))) in
+      let (d, p) = judged-clean rows j in
       let (b, w) = clean-word gridCode (promised .verdicts) (joined 8 rows) d p in
       record {
         answer = ap clean (taken-data word places e l taken read d b (is ∙ w)) ∙ sym p;

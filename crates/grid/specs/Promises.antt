@@ -1,8 +1,8 @@
--- What is proved of the grid's calls, whatever was read (`decode-promised`, `one-outcome`). What is proved of the code stands in the crate
--- grid_code. Assumes nothing.
+-- What is proved of the grid's calls, whatever was read (`decode-promised`, `clean-promised`, `one-outcome`). What is proved of the code
+-- stands in the crate grid_code. Assumes nothing.
 use mathlib.Core.Path.{_≡_}
 use mathlib.Core.Logic.{_≢_, _⊎_}
-use mathlib.Core.Bool.{Bool}
+use mathlib.Core.Bool.{Bool, true}
 use mathlib.Core.List.{List}
 use Prim.Native.Nat.{ℕ, _^_, _≤_, _<_}
 use lib.Bits.{bitXor}
@@ -43,6 +43,11 @@ pub record DecodePromises : Type 0 where
   -- Eight are always lost, and the grid stays as read.
   pub eight : (d p : ℕ) (r : Answer) → d < 2 ^ 16 → p < 2 ^ 64 → ones p ≡ 8 → Decoded (fields 8 8 (bitXor (codeword d) p)) r
       → (means (r .verdict) ≡ lost) × (numberOf (r .verdict) ≡ 1) × (r .grid .rows ≡ fields 8 8 (bitXor (codeword d) p))
+
+-- What `Grid::is_clean` promises: of codewords, and of nothing else, it says that they are clean.
+pub record CleanPromises : Type 0 where
+  pub codewords : (rows : List ℕ) (d : ℕ) (r : Bool) → d < 2 ^ 16 → joined 8 rows ≡ codeword d → Judged rows r → r ≡ true
+  pub nothing-else : (rows : List ℕ) → Judged rows true → (d : ℕ) × (d < 2 ^ 16) × (joined 8 rows ≡ codeword d)
 
 -- No second outcome satisfies the statement of a call.
 pub record OneOutcome : Type 0 where

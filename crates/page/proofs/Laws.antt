@@ -6,17 +6,17 @@ use Prim.Native.Nat.{ℕ, _+_, _^_, _≤_, _<_}
 use native.Mathlib.Omega.{arith}
 use lib.ListN.{length, getD, set, take}
 use lib.Seq.{length-take-le}
-use borrow.Author.Tests.{eqb-true}
 use Rattle.words.specs.Fields.{fields, joined}
 use Rattle.words.proofs.Fields.{joined-fields}
 use Rattle.words.proofs.Lists.{partly, partly-at, partly-step}
 use Rattle.codes.specs.Verdict.{Verdict, clean, mended, lost, flipsOf, verdict, repaired, scrubbed}
 use Rattle.codes.specs.Tally.{isClean, isMended, isLost}
 use Rattle.codes.proofs.Promises.{clean-word}
-use Rattle.codes.proofs.Tally.{one-kind, clean-of, sum-bound, sum-step, few-flips}
+use Rattle.codes.proofs.Tally.{one-kind, sum-bound, sum-step, few-flips}
 use Rattle.grid_code.specs.Code.{gridCode}
 use Rattle.grid_code.proofs.Promises as grid
 use Rattle.grid.specs.Calls.{Judged}
+use Rattle.grid.proofs.Verdicts.{judged-clean}
 use Rattle.page.specs.Calls.{tallyOf}
 use Rattle.page.specs.Steps.{counted, Roomy}
 use Rattle.page.specs.declared.Tally.{Tally}
@@ -29,7 +29,7 @@ pub decoded-clean : (w : ℕ) (rows : List ℕ) → w < 2 ^ 64 → rows ≡ fiel
     × ((t : Tally) → (counted t (clean 0) ≡ counted t (verdict gridCode w)) × (Roomy t (verdict gridCode w) → Roomy t (clean 0)))
 decoded-clean w rows l e j =
     let same : joined 8 rows ≡ w = ap (joined 8) e ∙ joined-fields 8 8 w l in
-    let (d, p) = clean-of (verdict gridCode (joined 8 rows)) (eqb-true (isClean (verdict gridCode (joined 8 rows))) 1 (sym (j .answer))) in
+    let (d, p) = judged-clean rows j in
     let v : verdict gridCode w ≡ clean d = sym (ap (verdict gridCode) same) ∙ p in (
       clean-word gridCode (grid.promised .verdicts) w d v .1 ∙ sym (ap (repaired gridCode w) v),
       λ t. (
