@@ -1,5 +1,5 @@
-// The bench of the open day: reads a card image from standard input, scrubs it in memory, and prints the
-// title and the two tallies, or the one line of a refusal. The work is in the library; this prints.
+// The bench of the open day: reads a card image from standard input, scrubs it in memory, and prints the title and the two tallies, or the
+// one line of a refusal. The work is in the library; this prints.
 use card::Blocks;
 use card::ScrubAnswer;
 use libc::STDIN_FILENO;

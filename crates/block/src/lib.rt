@@ -6,16 +6,15 @@
 //     words 35 to 37   diagonal t, the parity of the places with r + c = t, is bit t mod 16 of word 35 + t / 16;
 //                      bit 15 of word 37 is the system parity, that of the 512 data bits
 //
-// A row is one word with its own parity, so where two blocks differ in a row they differ in two places
-// or more, its parity counted. Three rows make six. Two make four; if the columns agree, both rows differ
-// in the same places, and the diagonals tell them apart: five. In one row each place counts with its column
-// and its diagonal; a single one also with its row and the system parity: five. So two blocks differ in at
-// least five places, and up to two flips leave a block nearer to what was written than to any other.
+// A row is one word with its own parity, so where two blocks differ in a row they differ in two places or more, its parity counted. Three
+// rows make six. Two make four; if the columns agree, both rows differ in the same places, and the diagonals tell them apart: five. In one
+// row each place counts with its column and its diagonal; a single one also with its row and the system parity: five. So two blocks differ
+// in at least five places, and up to two flips leave a block nearer to what was written than to any other.
 //
 // The scrubber guesses a flipped place, and verifies it by the checks that are left (crate block_flips).
 //
-// The crate block_code has the parities and what is proved of the code, block_words what writes, reads and flips
-// the words. specs/Calls.antt has what each call promises, and specs/Promises.antt what is proved of the calls.
+// The crate block_code has the parities and what is proved of the code, block_words what writes, reads and flips the words.
+// specs/Calls.antt has what each call promises, and specs/Promises.antt what is proved of the calls.
 ghost use mathlib.Core.Path.{_≡_};
 ghost use mathlib.Core.Logic.{_≢_};
 ghost use lib.ListN.{length};
@@ -76,8 +75,8 @@ impl Block {
 
     pub const DISTANCE: u32 = 5;
 
-    // The block of 32 data words, into 38 words. Any other length is refused, and nothing is written.
-    // RADIUS, LENGTH and DISTANCE are the code's own.
+    // The block of 32 data words, into 38 words. Any other length is refused, and nothing is written. RADIUS, LENGTH and DISTANCE are the
+    // code's own.
     pub fn encode(values: &[u16], words: &mut [u16]) -> Written
         ensures { λ r. ⌜ Encoded (now (values .entry)) (now (words .entry)) r (now (words .exit)) ⌝ }
         ensures constants { λ r. do ⌜ States blockCode (← ⟦Block::RADIUS⟧ .entry) (← ⟦Block::LENGTH⟧ .entry) (← ⟦Block::DISTANCE⟧ .entry) ⌝ }
@@ -92,8 +91,8 @@ impl Block {
         Written::Done
     }
 
-    // The nearest codeword in place of the 38 words that were read, where it is within two places. Where
-    // none is, or where the length is another, nothing is written.
+    // The nearest codeword in place of the 38 words that were read, where it is within two places. Where none is, or where the length is
+    // another, nothing is written.
     pub fn scrub(words: &mut [u16]) -> Outcome
         ensures { λ r. ⌜ Scrubbed (now (words .entry)) r (now (words .exit)) ⌝ }
     {

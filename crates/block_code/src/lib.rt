@@ -38,8 +38,7 @@ pub fn is_none(a: Checks) -> bool
     a.diagonals == 0
 }
 
-// The checks that a flip at `place` changes, for the 608 places of a block: those that a data place
-// stands in, or the check itself.
+// The checks that a flip at `place` changes, for the 608 places of a block: those that a data place stands in, or the check itself.
 pub fn of_place(place: usize) -> Checks
     ensures { λ r. ⌜ (place < 608 → r ≡ ofPlace place) ⌝ }
 {

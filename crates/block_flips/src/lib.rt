@@ -1,13 +1,11 @@
-// At most two flips that explain a syndrome, the checks in which what the data says and what the block
-// holds differ: guess one of them, and verify it by what is left.
+// At most two flips that explain a syndrome, the checks in which what the data says and what the block holds differ: guess one of them, and
+// verify it by what is left.
 //
-// A flipped data place is in the syndrome by its row, its column and its diagonal, and two of the three
-// name it. One is spoilt by a flipped check, or gone where two data places share it. If no row is left, the
-// lowest column and the lowest diagonal are those of one place; if no column is left, the row and the
-// diagonal are. Else, if the lowest row, column and diagonal meet, they meet at a place. If they do not, and
-// there are two columns, the lowest row has the second: the first is another place's, or a flipped check.
-// If there is one column, it has the highest row: a lower one is a flipped check. And where no data place
-// is flipped, the lowest check is.
+// A flipped data place is in the syndrome by its row, its column and its diagonal, and two of the three name it. One is spoilt by a flipped
+// check, or gone where two data places share it. If no row is left, the lowest column and the lowest diagonal are those of one place; if no
+// column is left, the row and the diagonal are. Else, if the lowest row, column and diagonal meet, they meet at a place. If they do not,
+// and there are two columns, the lowest row has the second: the first is another place's, or a flipped check. If there is one column, it
+// has the highest row: a lower one is a flipped check. And where no data place is flipped, the lowest check is.
 ghost use mathlib.Core.Path.{_≡_};
 ghost use mathlib.Core.Logic.{_⊎_};
 ghost use Prim.Native.Nat.{_+_, _-_, _*_, _^_, _≤_, _<_};
@@ -90,8 +88,8 @@ fn lone_check(s: Checks) -> usize
     PLACES
 }
 
-// Whether a flip of the data place at row r and column c is all that s says: `explains` of that place,
-// which stops at the first check that differs.
+// Whether a flip of the data place at row r and column c is all that s says: `explains` of that place, which stops at the first check that
+// differs.
 fn is_data(s: Checks, r: u32, c: u32) -> bool
     requires { ⌜ (r < 32) × (c < 16) ⌝ }
     ensures { λ b. ⌜ Explained (16 * r + c) s b ⌝ }
@@ -173,8 +171,8 @@ fn is_more(f: Flips) -> bool
     }
 }
 
-// The flips that explain a syndrome in which some check is set, where there are not more than two. A loop
-// over the two guesses, for there `attempt` is compiled in place: two calls of it cost more.
+// The flips that explain a syndrome in which some check is set, where there are not more than two. A loop over the two guesses, for there
+// `attempt` is compiled in place: two calls of it cost more.
 pub fn nearest(s: Checks) -> Flips
     ensures { λ f. ⌜ Found s f ⌝ }
 {

@@ -1,5 +1,5 @@
-// The checks that 32 data words say, by sums of many words at a time: four words are one number, and rows, columns and diagonals of 16 words
-// are a few folds of four numbers. All of it is shifts, masks and exclusive or, so it is proved by its values at single places.
+// The checks that 32 data words say, by sums of many words at a time: four words are one number, and rows, columns and diagonals of 16
+// words are a few folds of four numbers. All of it is shifts, masks and exclusive or, so it is proved by its values at single places.
 //
 // The crate block_code says what the checks are; the public function accepts every input.
 ghost use mathlib.Core.Path.{_≡_};
@@ -23,10 +23,9 @@ fn four(words: &[u16], k: usize) -> u64
         ^ ((words[i + 3] as u64) << 48)
 }
 
-// The row parities of 16 words, four to a number. Each word is folded to half its width, and a word of
-// another number is folded into the half that this frees; twice, so that each 16 bits have four bits of each
-// number, in order. These are folded on, to one, and then the parities of a number's words stand 16 places
-// apart: they are brought side by side.
+// The row parities of 16 words, four to a number. Each word is folded to half its width, and a word of another number is folded into the
+// half that this frees; twice, so that each 16 bits have four bits of each number, in order. These are folded on, to one, and then the
+// parities of a number's words stand 16 places apart: they are brought side by side.
 fn rows_of(a: u64, b: u64, c: u64, d: u64) -> u32
     ensures { λ r. ⌜ ((w : ℕ) → fields 64 4 w ≡ a ∷ b ∷ c ∷ d ∷ [] → r ≡ rowsOf (fields 16 16 w)) ⌝ }
 {
@@ -47,8 +46,8 @@ fn columns_of(x: u64) -> u16
     ((half ^ (half >> 16)) & 0xFFFF) as u16
 }
 
-// The diagonals of 16 words, four to a number: each word stands one place higher than the word before it.
-// First the two words of each half of a number are laid together, then the numbers, then the halves.
+// The diagonals of 16 words, four to a number: each word stands one place higher than the word before it. First the two words of each half
+// of a number are laid together, then the numbers, then the halves.
 fn diagonals_of(a: u64, b: u64, c: u64, d: u64) -> u64
     ensures { λ r. ⌜ ((w : ℕ) → fields 64 4 w ≡ a ∷ b ∷ c ∷ d ∷ [] → r ≡ stacked 1 (λ x. x) (fields 16 16 w)) ⌝ }
 {
@@ -60,9 +59,9 @@ fn diagonals_of(a: u64, b: u64, c: u64, d: u64) -> u64
     (halves ^ (halves >> 30)) & 0x7FFF_FFFF
 }
 
-// What the 32 data words at the front say that the checks are, and nothing where there are not so many
-// words. Four words are one number. The rows and the diagonals are those of 16 words and 16 more, which
-// stand 16 places higher. The system parity is that of the columns, for they too have each data bit once.
+// What the 32 data words at the front say that the checks are, and nothing where there are not so many words. Four words are one number.
+// The rows and the diagonals are those of 16 words and 16 more, which stand 16 places higher. The system parity is that of the columns, for
+// they too have each data bit once.
 pub fn said(words: &[u16]) -> Checks
     ensures { λ r. ⌜ (32 ≤ length (now (words .entry)) → r ≡ saidBy (take 32 (now (words .entry)))) ⌝ }
 {

@@ -11,8 +11,8 @@ ghost use Rattle.block_code.specs.Code.{codeword};
 ghost use Rattle.block_code.specs.Checks.{noChecks, heldBy, checkWords, syndromeOf};
 use block_code::Checks;
 
-// The 32 data words, to the front. Four are read before they are written: with no store between them the
-// four reads are one load, and the four stores are one.
+// The 32 data words, to the front. Four are read before they are written: with no store between them the four reads are one load, and the
+// four stores are one.
 fn copy(values: &[u16], words: &mut [u16])
     requires { ⌜ (length (now values) ≡ 32) × (length (now words) ≡ 38) ⌝ }
     ensures { λ r. ⌜ now (words .exit) ≡ paste (now (words .entry)) 0 (now (values .entry)) 32 ⌝ }

@@ -1,5 +1,5 @@
-// The card image put to use: scrubbed where it stands, written, and read back. Each call is a crate of its own; specs/Promises.antt has what
-// is proved of the three together.
+// The card image put to use: scrubbed where it stands, written, and read back. Each call is a crate of its own; specs/Promises.antt has
+// what is proved of the three together.
 pub use card_read::ReadAnswer;
 pub use card_read::read;
 pub use card_scrub::ScrubAnswer;

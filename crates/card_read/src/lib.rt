@@ -2,15 +2,14 @@
 //
 // The image is checked as a whole before anything is written (crate image), so a refused call leaves all that it was lent as it was.
 //
-// specs/Calls.antt says what the call answers and leaves, and specs/Answer.antt document 01's number for each answer. What is shown of a grid
-// is in the crate value_read.
+// specs/Calls.antt says what the call answers and leaves, and specs/Answer.antt document 01's number for each answer. What is shown of a
+// grid is in the crate value_read.
 ghost use Rattle.card_read.specs.Calls.{Read};
 ghost use Rattle.card_read.specs.Steps.{ReadsGrids, ReadsFields};
 use fields::Field;
 use image::Outcome;
 
-// The title's length and the number of grids; or refused for the image's length, for a break at an offset,
-// or for want of room.
+// The title's length and the number of grids; or refused for the image's length, for a break at an offset, or for want of room.
 pub enum ReadAnswer {
     Done { title: usize, grids: usize },
     Length,

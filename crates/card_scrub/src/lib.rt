@@ -1,8 +1,8 @@
 // The scrub of a card image where it stands.
 //
 // The image is checked as a whole before anything is written (crate image), so a refused call leaves it as it was. Then the data fields are
-// scrubbed one behind the other, each value by itself (crate value_scrub): a lost grid or block is counted, stays as it is, and is no refusal
-// of the call.
+// scrubbed one behind the other, each value by itself (crate value_scrub): a lost grid or block is counted, stays as it is, and is no
+// refusal of the call.
 //
 // specs/Calls.antt says what the call answers and leaves, and specs/Answer.antt document 01's number for each answer.
 ghost use mathlib.Core.Path.{_≡_};

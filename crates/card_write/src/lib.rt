@@ -12,8 +12,7 @@ ghost use Rattle.card_write.specs.Calls.{cardWith, Wrote};
 ghost use Rattle.card_write.specs.Steps.{Fits};
 use grid::Grid;
 
-// How many bytes were written; or refused for a length, for the title's byte at a place, or for want of
-// room.
+// How many bytes were written; or refused for a length, for the title's byte at a place, or for want of room.
 pub enum WriteAnswer {
     Done(usize),
     Length,

@@ -2,10 +2,10 @@
 use mathlib.Core.Path.{_≡_, refl, sym, ap, ap₂, _∙_, subst}
 use mathlib.Core.Bool.{Bool, true, false, and-eq-true-iff}
 use mathlib.Core.List.{List}
-use Prim.Native.Nat.{ℕ, _+_, _%_, _≤_, _<_}
+use Prim.Native.Nat.{ℕ, _+_, _-_, _%_, _≤_, _<_}
 use native.Mathlib.Omega.{arith}
 use lib.Dec.{leb, eqb}
-use lib.ListN.{length, drop, length-drop}
+use lib.ListN.{length, take, drop, length-drop}
 use lib.Seq.{length-take-le}
 use borrow.Author.Tests.{leb-true, eqb-true, le-leb, lt-leb, eq-eqb, ne-eqb}
 use Rattle.words.specs.Word.{choose}
@@ -15,6 +15,13 @@ use Rattle.fields.specs.Fields.{tag, size, value, isTitle, isGrids, othe
 
 pub length-value : (s : List ℕ) → 3 + size s ≤ length s → length (value s) ≡ size s
 length-value s l = length-take-le (size s) (drop 3 s) (omega (arith, length-drop 3 s))
+
+-- .. as it is lent
+pub value-is : (s : List ℕ) (n : ℕ) → size s ≡ n → take (3 + n - 3) (drop 3 s) ≡ value s
+value-is s n e = let k : 3 + n - 3 ≡ size s = omega (arith, e) in ap (λ (m : ℕ). take m (drop 3 s)) k
+
+pub value-long : (s : List ℕ) (n : ℕ) → 3 + n ≤ length s → length (take (3 + n - 3) (drop 3 s)) ≡ n
+value-long s n l = length-take-le (3 + n - 3) (drop 3 s) (omega (arith, length-drop 3 s)) ∙ omega arith
 
 pub past-end : (s : List ℕ) → length s < 3 + size s → fieldOf s ≡ Fails
 unfolding fieldOf

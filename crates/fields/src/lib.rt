@@ -5,19 +5,17 @@
 //     03  block   76 bytes: 38 words, low byte first
 //     7F  end     no bytes
 //
-// A field is its tag, two length bytes, high byte first, and its value. How many of them an image has, and in
-// which order, the crate image says.
+// A field is its tag, two length bytes, high byte first, and its value. How many of them an image has, and in which order, the crate image
+// says.
 //
-// specs/Fields.antt has the rules, specs/Calls.antt what each call promises, and specs/Promises.antt what is
-// proved of it.
+// specs/Fields.antt has the rules, specs/Calls.antt what each call promises, and specs/Promises.antt what is proved of it.
 ghost use mathlib.Core.Path.{_≡_};
 ghost use Prim.Native.Nat.{_≤_, _<_};
 ghost use lib.ListN.{length};
 ghost use Rattle.fields.specs.Calls.{Classified, Searched, Measured};
 ghost use Rattle.fields.specs.Fields.{size, isTitle, isGrids, otherField};
 
-// What stands at the front of a slice. Title and grids come with the length of their value; Fails: at
-// least one rule fails there.
+// What stands at the front of a slice. Title and grids come with the length of their value; Fails: at least one rule fails there.
 pub enum Field {
     Title(usize),
     Grids(usize),

@@ -10,16 +10,15 @@
 //     row 6   c c c c   c c c   p
 //     row 7   q q q q   q q q   q
 //
-// Each row and each column is a word of a code in which two words differ in at least four places. So
-// the grids of two data values differ in four rows or more, in four places or more of each: in 16 places
-// at least, and up to seven flips leave a grid nearer to what was written than to the grid of any other value.
+// Each row and each column is a word of a code in which two words differ in at least four places. So the grids of two data values differ in
+// four rows or more, in four places or more of each: in 16 places at least, and up to seven flips leave a grid nearer to what was written
+// than to the grid of any other value.
 //
-// The decoder puts each row right, sets aside those that it cannot be sure of, and lets the columns
-// decide (crates grid_rows and grid_trials). What it hands out it has counted: a codeword within seven places.
+// The decoder puts each row right, sets aside those that it cannot be sure of, and lets the columns decide (crates grid_rows and
+// grid_trials). What it hands out it has counted: a codeword within seven places.
 //
-// The crate grid_code has the parities and what is proved of the code, specs/Calls.antt what each call
-// promises, and specs/Promises.antt what is proved of the calls. As a number a grid has row r in byte r, lowest
-// byte first, and place c of a row in bit c.
+// The crate grid_code has the parities and what is proved of the code, specs/Calls.antt what each call promises, and specs/Promises.antt
+// what is proved of the calls. As a number a grid has row r in byte r, lowest byte first, and place c of a row in bit c.
 ghost use Rattle.codes.specs.Promises.{States};
 ghost use Rattle.grid_code.specs.Code.{gridCode};
 ghost use Rattle.grid.specs.Calls.{Encoded, Numbered, Parted, Judged, Decoded};

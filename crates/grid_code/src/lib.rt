@@ -16,10 +16,9 @@ pub fn data_places(value: u16) -> u32
     (pairs ^ (pairs << 4)) & 0x0F0F_0F0F
 }
 
-// Rows 0 to 3 from their data places, all four rows at a time: each data place, set once more wherever it
-// counts. Place 4 is the parity of places 0, 1, 2, place 5 that of 0, 2, 3, place 6 that of 1, 2, 3; so place 7,
-// that of all before it, is that of 0, 1, 3. No two of the places set meet, so a sum sets them, and the
-// compiler makes one product of it.
+// Rows 0 to 3 from their data places, all four rows at a time: each data place, set once more wherever it counts. Place 4 is the parity of
+// places 0, 1, 2, place 5 that of 0, 2, 3, place 6 that of 1, 2, 3; so place 7, that of all before it, is that of 0, 1, 3. No two of the
+// places set meet, so a sum sets them, and the compiler makes one product of it.
 pub fn upper(places: u32) -> u32
     ensures { λ r. ⌜ ((d : ℕ) → d < 2 ^ 16 → places ≡ bitAnd (codeword d) 0x0F0F_0F0F → r ≡ codeword d % 2 ^ 32) ⌝ }
 {
@@ -34,10 +33,9 @@ pub fn upper(places: u32) -> u32
         ^ ((d << 3) + (d << 5) + (d << 6) + (d << 7))
 }
 
-// Rows 4 to 7 from rows 0 to 3. Each of them is the parity of all four but one: row 4 leaves out
-// row 2, row 5 row 1, row 6 row 0, and row 7, since rows 4 to 6 add up to row 3, leaves out row 3. So each
-// row takes the row two further on and the one opposite, and all move up by one. As one term, the rows in
-// the other order are one instruction.
+// Rows 4 to 7 from rows 0 to 3. Each of them is the parity of all four but one: row 4 leaves out row 2, row 5 row 1, row 6 row 0, and row
+// 7, since rows 4 to 6 add up to row 3, leaves out row 3. So each row takes the row two further on and the one opposite, and all move up by
+// one. As one term, the rows in the other order are one instruction.
 pub fn lower(rows: u32) -> u32
     ensures { λ r. ⌜ ((d : ℕ) → d < 2 ^ 16 → rows ≡ codeword d % 2 ^ 32 → r ≡ codeword d / 2 ^ 32) ⌝ }
 {

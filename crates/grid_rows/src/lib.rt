@@ -61,8 +61,8 @@ pub fn of_number(w: u64) -> [u8; 8]
 // Places 4 to 7 of the row whose places 0 to 3 hold 0, 1, .. 15.
 const CHECKS: [u8; 16] = [0, 11, 13, 6, 7, 12, 10, 1, 14, 5, 3, 8, 9, 2, 4, 15];
 
-// For each difference in places 4 to 7: the flips among places 0 to 3, and 16 more where one flip or
-// two are needed, and 32 more where two are.
+// For each difference in places 4 to 7: the flips among places 0 to 3, and 16 more where one flip or two are needed, and 32 more where two
+// are.
 const FLIPS: [u8; 16] = [
     0,
     16,
@@ -82,8 +82,8 @@ const FLIPS: [u8; 16] = [
     52,
 ];
 
-// The rows copied, and each put right: in places 0 to 3 its data places; place 4 is set where the row
-// needed one flip or two, place 5 where it needed two. A trial asks for no more.
+// The rows copied, and each put right: in places 0 to 3 its data places; place 4 is set where the row needed one flip or two, place 5 where
+// it needed two. A trial asks for no more.
 pub fn mended(rows: [u8; 8]) -> [u8; 8]
     ensures { λ r. ⌜ r ≡ map mendedRow rows ⌝ }
 {

@@ -1,5 +1,4 @@
-// A trial's step over the columns, all eight at a time. A word has row r in byte r, so what is done to
-// bytes is done to every column alike.
+// A trial's step over the columns, all eight at a time. A word has row r in byte r, so what is done to bytes is done to every column alike.
 ghost use mathlib.Core.Path.{_≡_};
 ghost use Prim.Native.Nat.{ℕ, _*_, _%_, _<_};
 ghost use lib.Bits.{bitAnd};
@@ -19,8 +18,8 @@ fn spread(w: u64) -> u64
     quarters ^ (quarters << 8) ^ (quarters >> 56)
 }
 
-// In each column of odd parity, the one place whose switching leaves a word of the column code: the row
-// whose address the parities of rows 0 1 3 4, of rows 0 2 3 5 and of rows 1 2 3 6 make.
+// In each column of odd parity, the one place whose switching leaves a word of the column code: the row whose address the parities of rows
+// 0 1 3 4, of rows 0 2 3 5 and of rows 1 2 3 6 make.
 fn named(odd: u64) -> u64
     ensures { λ p. ⌜ ((c r : ℕ) → c < 8 → r < 8 → combined colEntries (inColumn odd c) % 2 ≡ 1 → inColumn p c r ≡ choose (eqb (combined colEntries (inColumn odd c)) (getD colEntries r 0)) 1 0) ⌝ }
 {
@@ -51,10 +50,9 @@ fn filled(aside: u64) -> u64
     fours ^ (fours << 4)
 }
 
-// The rows put right, in each column in which a codeword agrees with them. The rows that have place 0
-// marked are set aside. In a column of even parity the first of them is switched, so that all columns are
-// odd, and one place of each is named. With one row set aside or none, that place is the last one wrong.
-// With more, no other row is wrong: where the place named is in another row, all those set aside were.
+// The rows put right, in each column in which a codeword agrees with them. The rows that have place 0 marked are set aside. In a column of
+// even parity the first of them is switched, so that all columns are odd, and one place of each is named. With one row set aside or none,
+// that place is the last one wrong. With more, no other row is wrong: where the place named is in another row, all those set aside were.
 pub fn solved(rows: u64, marks: u64) -> u64
     ensures { λ s. ⌜ Solved rows (bitAnd marks 0x0101_0101_0101_0101) s ⌝ }
 {

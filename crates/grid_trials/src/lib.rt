@@ -1,7 +1,7 @@
-// The two trials of the grid's decoder, over numbers, on the rows put right (crate grid_rows): the columns
-// solved (columns), and the codeword that is reached. A trial pays 1 for a row that it sets aside and 2 for any
-// other row that it has wrong, and reaches a codeword for which it pays 3 at most. Row by row both together
-// pay no more than the places that differ, so a codeword within seven is reached by one of them.
+// The two trials of the grid's decoder, over numbers, on the rows put right (crate grid_rows): the columns solved (columns), and the
+// codeword that is reached. A trial pays 1 for a row that it sets aside and 2 for any other row that it has wrong, and reaches a codeword
+// for which it pays 3 at most. Row by row both together pay no more than the places that differ, so a codeword within seven is reached by
+// one of them.
 ghost use Prim.Native.Nat.{_<_};
 ghost use Rattle.grid_trials.specs.Steps.{Mended, Tried, Nearby};
 
@@ -16,8 +16,8 @@ pub struct Near {
     pub flips: u32,
 }
 
-// A trial on the rows put right, where those are set aside that need `least` flips or more: the columns
-// put right, and the places of the codeword that is reached, counted.
+// A trial on the rows put right, where those are set aside that need `least` flips or more: the columns put right, and the places of the
+// codeword that is reached, counted.
 fn trial(word: u64, rows: u64, least: u32) -> Near
     requires { ⌜ (0 < least) × (least < 3) ⌝ }
     ensures { λ r. ⌜ (Mended word rows → Tried least word (r .number) (r .flips)) ⌝ }

@@ -1,5 +1,4 @@
-// The library's calls on plain numbers, for the tests and for counting instructions. No part of the
-// product.
+// The library's calls on plain numbers, for the tests and for counting instructions. No part of the product.
 ghost use mathlib.Core.Path.{_≡_};
 ghost use lib.ListN.{getD};
 ghost use Rattle.words.specs.Fields.{fields};
@@ -69,8 +68,8 @@ fn packed(verdict: Verdict) -> u64
     }
 }
 
-// The answers on the grids with the numbers `words`: each verdict as one number, and the number of the
-// grid beside it. Three slices of one length, or nothing is done.
+// The answers on the grids with the numbers `words`: each verdict as one number, and the number of the grid beside it. Three slices of one
+// length, or nothing is done.
 #[no_mangle]
 pub extern "C" fn grid_decode(words: &[u64], verdicts: &mut [u64], repaired: &mut [u64])
     ensures { λ r. ⌜ Decoding (now (words .entry)) (now (verdicts .entry)) (now (repaired .entry)) (now (verdicts .exit)) (now (repaired .exit)) ⌝ }

@@ -1,5 +1,5 @@
-// The calls on a card image, on plain numbers, for the tests and for counting instructions. No part of
-// the product. A crate of its own, so that the archives of the others stay small.
+// The calls on a card image, on plain numbers, for the tests and for counting instructions. No part of the product. A crate of its own, so
+// that the archives of the others stay small.
 ghost use mathlib.Core.Path.{_≡_};
 ghost use Prim.Native.Nat.{_≤_, _<_};
 ghost use Rattle.image.specs.Calls.{Checked};
@@ -44,8 +44,8 @@ pub extern "C" fn image_check(image: &[u8]) -> u64
     }
 }
 
-// The five numbers of the grids and the five of the blocks go to `tallies`, which has ten places; 255 is
-// returned where it has another length, and then nothing is done.
+// The five numbers of the grids and the five of the blocks go to `tallies`, which has ten places; 255 is returned where it has another
+// length, and then nothing is done.
 #[no_mangle]
 pub extern "C" fn image_scrub(image: &mut [u8], tallies: &mut [u32]) -> u64
     ensures { λ r. ⌜ Exported (now (image .entry)) (now (tallies .entry)) r (now (image .exit)) (now (tallies .exit)) ⌝ }

@@ -1,10 +1,10 @@
-// The scrub of a page on plain numbers, for the tests and for counting instructions. No part of the
-// product. A crate of its own, so that its archive has no other use of the decoder.
+// The scrub of a page on plain numbers, for the tests and for counting instructions. No part of the product. A crate of its own, so that
+// its archive has no other use of the decoder.
 ghost use Rattle.harness_page.specs.Exports.{Exported};
 use page::Outcome;
 
-// A page scrubbed, with the five numbers in `tally`, which has five places; document 01's number is
-// returned, and 255 where `tally` has another length: then nothing is done.
+// A page scrubbed, with the five numbers in `tally`, which has five places; document 01's number is returned, and 255 where `tally` has
+// another length: then nothing is done.
 #[no_mangle]
 pub extern "C" fn page_scrub(page: &mut [u64], tally: &mut [u32]) -> u32
     ensures { λ r. ⌜ Exported (now (page .entry)) (now (tally .entry)) r (now (page .exit)) (now (tally .exit)) ⌝ }

@@ -93,11 +93,11 @@ found (behind-end c b bytes h is) = ap cardOf is ∙ more-behind c h b bytes
 
 -- ---- every image is that of a card, or has a break
 
-abbrev Verdict : List ℕ → Type 0
-Verdict s = ((c : Card) × Proper c × (imageOf c ≡ s)) ⊎ ((place : ℕ) × Break s place)
+abbrev Told : List ℕ → Type 0
+Told s = ((c : Card) × Proper c × (imageOf c ≡ s)) ⊎ ((place : ℕ) × Break s place)
 
 -- an end behind the front of a card: either nothing is behind it, or some byte
-ended : (s : List ℕ) (r : Fronted s) (bytes : List ℕ) → r .rest ≡ head 127 0 ++ bytes → Verdict s
+ended : (s : List ℕ) (r : Fronted s) (bytes : List ℕ) → r .rest ≡ head 127 0 ++ bytes → Told s
 unfolding imageOf
 ended s r [] e = inl (r .card, r .proper, sym (r .is ∙ ap (λ (l : List ℕ). frontOf (r .card) ++ l) e))
 ended s r (b ∷ bytes) e =
@@ -108,7 +108,7 @@ ended s r (b ∷ bytes) e =
     )
 
 module _ (s : List ℕ) (h : Below 8 s) where
-  fronted : Fronted s → Verdict s
+  fronted : Fronted s → Told s
   fronted r = go (fieldOf rest) refl
     where
       c : Card
@@ -123,7 +123,7 @@ module _ (s : List ℕ) (h : Below 8 s) where
       below : Below 8 rest
       below = subst (Below 8) (ap (drop place) (r .is) ∙ drop-append-seam (frontOf c) rest) (below-drop 8 place s h)
 
-      go : (f : Field) → fieldOf rest ≡ f → Verdict s
+      go : (f : Field) → fieldOf rest ≡ f → Told s
       go (Title n) e = inr (place, repeated c rest n (r .proper) (r .is) e)
       go (Grids n) e = inr (place, seventeenth c rest (r .proper) (r .full (inl (n, e))) (r .is) (inl (n, e)))
       go Block e = inr (place, seventeenth c rest (r .proper) (r .full (inr e)) (r .is) (inr e))
@@ -133,28 +133,28 @@ module _ (s : List ℕ) (h : Below 8 s) where
           (split 127 0 rest below st ∙ ap (λ (k : ℕ). head 127 0 ++ take k (drop 3 rest) ++ drop 3 rest) (st .size-is))
       go Fails e = inr (place, fails c rest (r .proper) (r .is) e)
 
-  verdict : Verdict s
-  verdict = go (fieldOf s) refl
+  told : Told s
+  told = go (fieldOf s) refl
     where
-      go : (f : Field) → fieldOf s ≡ f → Verdict s
+      go : (f : Field) → fieldOf s ≡ f → Told s
       go (Title n) e = fronted (title-back s h n e)
       go (Grids n) e = inr (0, no-title (λ n q. let z : _≡_ {A = ℕ} 0 1 = cc in omega arith))
       go Block e = inr (0, no-title (λ n q. let z : _≡_ {A = ℕ} 0 1 = cc in omega arith))
       go End e = inr (0, no-title (λ n q. let z : _≡_ {A = ℕ} 0 1 = cc in omega arith))
       go Fails e = inr (0, no-title (λ n q. let z : _≡_ {A = ℕ} 0 1 = cc in omega arith))
 
-  -- what is found is one thing, so that a verdict of the other kind, or at another place, cannot be
+  -- what is found is one thing, so that one of the other kind, or at another place, cannot be
   back : (c : Card) → cardOf s ≡ sound c → Proper c × (imageOf c ≡ s)
-  back c e = go verdict
+  back c e = go told
     where
-      go : Verdict s → Proper c × (imageOf c ≡ s)
+      go : Told s → Proper c × (imageOf c ≡ s)
       go (inl (d, p, is)) = let same : d ≡ c = cc (whole d p) in subst (λ (k : Card). Proper k × (imageOf k ≡ s)) same (p, is)
       go (inr (place, b)) = let z : _≡_ {A = ℕ} 0 1 = cc (found b) in absurd (omega arith)
 
   there : (place : ℕ) → cardOf s ≡ broken place → Break s place
-  there place e = go verdict
+  there place e = go told
     where
-      go : Verdict s → Break s place
+      go : Told s → Break s place
       go (inl (c, p, is)) = let z : _≡_ {A = ℕ} 0 1 = cc (whole c p) in absurd (omega arith)
       go (inr (k, b)) = let same : k ≡ place = cc (found b) in subst (Break s) same b
 

@@ -1,11 +1,10 @@
 // The card image: the check of a whole image, and its title.
 //
-// An image is one title, then at most 16 fields that are grids or a block, and one end with nothing behind it;
-// what each of them is, the crate fields says. An image that breaks a rule is refused with the offset of the
-// first field at which a rule fails.
+// An image is one title, then at most 16 fields that are grids or a block, and one end with nothing behind it; what each of them is, the
+// crate fields says. An image that breaks a rule is refused with the offset of the first field at which a rule fails.
 //
-// specs/Card.antt has what an image holds and where it is broken, specs/Calls.antt what each call promises, and
-// specs/Promises.antt what is proved of it.
+// specs/Card.antt has what an image holds and where it is broken, specs/Calls.antt what each call promises, and specs/Promises.antt what is
+// proved of it.
 ghost use mathlib.Core.Path.{_≡_};
 ghost use Rattle.image.specs.Calls.{Checked, Named};
 ghost use Rattle.image.specs.Card.{walk};
@@ -14,8 +13,7 @@ use fields::BLOCK;
 use fields::Field;
 use fields::HEAD;
 
-// The answer of a check: sound, with the numbers of grids and of blocks; over the length that is allowed;
-// or broken at an offset.
+// The answer of a check: sound, with the numbers of grids and of blocks; over the length that is allowed; or broken at an offset.
 pub enum Outcome {
     Sound { grids: usize, blocks: usize },
     Length,
@@ -27,8 +25,7 @@ pub const MOST: usize = 32768;
 
 pub const DATA_FIELDS: usize = 16;
 
-// The fields from the offset `at` on, of which `left` may be data fields, counted behind the grids and
-// blocks that were passed.
+// The fields from the offset `at` on, of which `left` may be data fields, counted behind the grids and blocks that were passed.
 fn walk(rest: &[u8], at: usize, left: usize, grids: usize, blocks: usize) -> Outcome
     requires { ⌜ Inside (now rest) at × Inside (now rest) grids × Inside (now rest) blocks ⌝ }
     ensures { λ r. ⌜ r ≡ counted grids blocks (walk left at (now (rest .entry))) ⌝ }

@@ -1,5 +1,5 @@
-// A page of up to 512 grids, each a 64-bit number, scrubbed where it stands: mended grids are replaced
-// by their codewords, and clean, lost and tied ones stay as they are.
+// A page of up to 512 grids, each a 64-bit number, scrubbed where it stands: mended grids are replaced by their codewords, and clean, lost
+// and tied ones stay as they are.
 //
 // specs/Calls.antt says what a scrub answers and leaves, specs/Promises.antt what is proved of it.
 ghost use mathlib.Core.Path.{_≡_};
@@ -96,8 +96,7 @@ impl Tally {
     }
 }
 
-// Scrubs a page of 0 to 512 grids. A longer one is refused, and nothing is written. Nor is a grid that
-// stays as it is.
+// Scrubs a page of 0 to 512 grids. A longer one is refused, and nothing is written. Nor is a grid that stays as it is.
 pub fn scrub(page: &mut [u64]) -> Outcome
     ensures { λ r. ⌜ Scrubbed (now (page .entry)) r (now (page .exit)) ⌝ }
 {

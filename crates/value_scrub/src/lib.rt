@@ -1,8 +1,8 @@
-// The value of a data field scrubbed where it stands: the grids by way of pages, the block by way of its words. Each public function accepts
-// every input; what it does is promised where the length fits.
+// The value of a data field scrubbed where it stands: the grids by way of pages, the block by way of its words. Each public function
+// accepts every input; what it does is promised where the length fits.
 //
-// specs/Tally.antt says what is counted of blocks, and the scrub of a card image cites it. No promise to a caller cites anything else of this
-// crate.
+// specs/Tally.antt says what is counted of blocks, and the scrub of a card image cites it. No promise to a caller cites anything else of
+// this crate.
 ghost use mathlib.Core.Path.{_≡_};
 ghost use Prim.Native.Nat.{_*_, _%_, _≤_};
 ghost use lib.ListN.{length};

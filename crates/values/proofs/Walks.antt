@@ -6,7 +6,6 @@ use Prim.Native.Nat.{ℕ, zero, suc, _+_, _-_, _*_, _/_, _≤_}
 use native.Mathlib.Decide.{ℕ-discrete}
 use native.Mathlib.Omega.{arith}
 use lib.ListN.{length, take, drop, length-append, length-drop}
-use lib.Seq.{length-take-le}
 use types.Run.{OneOf}
 use denote.Enum.Declared.{tagOf}
 use Rattle.words.specs.Fields.{Below}
@@ -124,13 +123,7 @@ bounded zero at s ps w = end-only (fieldOf s) refl
     end-only Fails f = never (sym (walk-fails at s zero f) ∙ w)
 bounded (suc left) at s ps w = bound at s ps (suc left) w (λ at s ps w. bounded left at s ps w) (fieldOf s) refl
 
--- ---- what is lent of a field, and what is found behind it
-
-pub value-is : (s : List ℕ) (n : ℕ) → size s ≡ n → take (3 + n - 3) (drop 3 s) ≡ value s
-value-is s n e = let k : 3 + n - 3 ≡ size s = omega (arith, e) in ap (λ (m : ℕ). take m (drop 3 s)) k
-
-pub value-long : (s : List ℕ) (n : ℕ) → 3 + n ≤ length s → length (take (3 + n - 3) (drop 3 s)) ≡ n
-value-long s n l = length-take-le (3 + n - 3) (drop 3 s) (omega (arith, length-drop 3 s)) ∙ omega arith
+-- ---- what is found behind a field
 
 abbrev pub walks-on : (s : List ℕ) (n : ℕ) (w : Walks s) → fieldOf s ≡ Grids n → Walks (drop (3 + n) s)
 walks-on s n w f =

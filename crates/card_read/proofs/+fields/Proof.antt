@@ -14,10 +14,10 @@ use Rattle.words.proofs.Lists.{part-behind, length-part}
 use Rattle.words.proofs.Bytes.{laid-none}
 use Rattle.fields.specs.declared.Field.the-variants.{Grids, Block}
 use Rattle.fields.specs.Fields.{fieldOf}
-use Rattle.fields.proofs.Fields.{known}
 use Rattle.fields.proofs.front.Reads as front-reads
+use Rattle.fields.proofs.Fields.{known, value-is, value-long}
 use Rattle.image.specs.Card.{walk, gridsIn}
-use Rattle.values.proofs.Walks.{less, grids-front, block-front, only-end, value-is, value-long, walks-on, block-walks-on}
+use Rattle.values.proofs.Walks.{less, grids-front, block-front, only-end, walks-on, block-walks-on}
 use Rattle.value_read.specs.Shown.{dataOfGrid, flipsOfGrid, dataOfGrids, flipsOfGrids}
 use Rattle.value_read.proofs.grids.Reads as grids-reads
 use Rattle.card_read.specs.Steps.{ReadsFields}

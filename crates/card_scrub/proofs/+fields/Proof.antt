@@ -12,11 +12,11 @@ use Rattle.words.specs.Fields.{Below}
 use Rattle.codes.specs.Tally.{sumBy}
 use Rattle.fields.specs.declared.Field.the-variants.{Grids}
 use Rattle.fields.specs.Fields.{fieldOf}
-use Rattle.fields.proofs.Fields.{known, grids-size}
 use Rattle.fields.proofs.front.Reads as front-reads
+use Rattle.fields.proofs.Fields.{known, grids-size, value-is, value-long}
 use Rattle.image.specs.Card.{head, partsBytes}
 use Rattle.values.specs.Steps.{Walks}
-use Rattle.values.proofs.Walks.{only-end, value-is, value-long, walks-on, block-walks-on}
+use Rattle.values.proofs.Walks.{only-end, walks-on, block-walks-on}
 use Rattle.value_scrub.proofs.block.Reads as block-reads
 use Rattle.value_scrub.proofs.both.Reads as both-reads
 use Rattle.value_scrub.proofs.grids.Reads as grids-reads

@@ -8,13 +8,13 @@ use denote.Ref.{now}
 use borrow.Author.Needs.{needs}
 use Rattle.fields.specs.declared.Field.the-variants.{Title}
 use Rattle.fields.specs.Fields.{tag, size, value, isTitle, otherField}
-use Rattle.fields.proofs.Fields.{past-end, title-found, no-title, other}
+use Rattle.fields.proofs.Fields.{value-is, past-end, title-found, no-title, other}
 use Rattle.fields.proofs.front.Statement.{statement}
 use Rattle.fields.proofs.front.Tie as tie
 
 -- the value of a field of n bytes
-value-is : (s : List ℕ) (n : ℕ) → n ≡ size s → isTitle (value s) ≡ isTitle (take (3 + n - 3) (drop 3 s))
-value-is s n e = let k : size s ≡ 3 + n - 3 = omega (arith, e) in ap (λ (k : ℕ). isTitle (take k (drop 3 s))) k
+title-asked : (s : List ℕ) (n : ℕ) → n ≡ size s → isTitle (value s) ≡ isTitle (take (3 + n - 3) (drop 3 s))
+title-asked s n e = ap isTitle (sym (value-is s n (sym e)))
 
 returns : tie.Need-returns
 returns c = record { answer = sym (past-end (now (c .before .before .args .rest)) (omega arith)) }
@@ -29,7 +29,7 @@ returns-3 c =
     let s : List ℕ = now (at .before .before .before .args .rest) in
     let n : at .size .result ≡ size s = at .size .ensures .0 in
     let whole : 3 + size s ≤ length s = omega (arith, n) in
-    record { answer = ap Title n ∙ sym (title-found s whole (c .before .before .before .if3 .taken) (value-is s (at .size .result) n ∙ sym (c .before .is-title .ensures) ∙ c .if4 .taken)) }
+    record { answer = ap Title n ∙ sym (title-found s whole (c .before .before .before .if3 .taken) (title-asked s (at .size .result) n ∙ sym (c .before .is-title .ensures) ∙ c .if4 .taken)) }
 
 returns-4 : tie.Need-returns-4
 returns-4 c =
@@ -37,7 +37,7 @@ returns-4 c =
     let s : List ℕ = now (at .before .before .before .args .rest) in
     let n : at .size .result ≡ size s = at .size .ensures .0 in
     let whole : 3 + size s ≤ length s = omega (arith, n) in
-    record { answer = sym (no-title s whole (c .before .before .before .if3 .taken) (value-is s (at .size .result) n ∙ sym (c .before .is-title .ensures) ∙ c .if4 .left)) }
+    record { answer = sym (no-title s whole (c .before .before .before .if3 .taken) (title-asked s (at .size .result) n ∙ sym (c .before .is-title .ensures) ∙ c .if4 .left)) }
 
 returns-5 : tie.Need-returns-5
 returns-5 c =

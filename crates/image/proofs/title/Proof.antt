@@ -1,13 +1,11 @@
 -- `image::title` meets its contract. Assumes nothing.
-use mathlib.Core.Path.{_≡_, sym, ap, _∙_}
+use mathlib.Core.Path.{sym, ap, _∙_}
 use mathlib.Core.List.{List}
-use Prim.Native.Nat.{ℕ, _+_, _-_}
+use Prim.Native.Nat.{ℕ, _-_}
 use native.Mathlib.Omega.{arith}
-use lib.ListN.{take, drop}
 use denote.Ref.{now}
 use borrow.Author.Needs.{needs}
-use Rattle.fields.specs.Fields.{size}
-use Rattle.fields.proofs.Fields.{known}
+use Rattle.fields.proofs.Fields.{value-is, known}
 use Rattle.image.specs.Calls.{titleIn}
 use Rattle.image.proofs.Walking.{untitled}
 use Rattle.image.proofs.title.Statement.{statement}
@@ -26,8 +24,7 @@ returns c =
     let n = c .before .before in
     let s : List ℕ = now (n .before .before .before .before .args .image) in
     let e = sym (n .before .before .front .ensures .answer) ∙ n .n .given .1 in
-    let k : 3 + n .n .given .0 .0 - 3 ≡ size s = omega (arith, known s e .0 .size-is) in
-    record { answer = ap (λ (m : ℕ). take m (drop 3 s)) k ∙ sym (ap (titleIn s) e) }
+    record { answer = value-is s (n .n .given .0 .0) (known s e .0 .size-is) ∙ sym (ap (titleIn s) e) }
 
 returns-2 : tie.Need-returns-2
 returns-2 c =
