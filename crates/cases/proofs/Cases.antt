@@ -12,8 +12,8 @@ use Rattle.words.proofs.Dist.{dist-sym}
 use Rattle.words.proofs.Fields.{dist-fields}
 use Rattle.words.proofs.Test.{both-left, both-right, every}
 use Rattle.words.proofs.Xor.{xor-cancel-l}
-use Rattle.codes.specs.Verdict.{Code, Verdict, clean, mended, lost, tie, off, IsVerdict, answered, verdict}
-use Rattle.codes.specs.Promises.{Promises}
+use Rattle.codes.specs.Verdict.{clean, mended, lost, tie, off, answered, verdict}
+use Rattle.codes.proofs.Verdict.{has-verdict}
 use Rattle.codes.proofs.Promises.{found}
 use Rattle.grid_code.specs.Equations as grid
 use Rattle.grid_code.specs.Code.{codeword, gridCode}
@@ -55,10 +55,6 @@ right? (ofBlock d w) = ltb d (2 ^ 512) && eqb (block d) w
 
 -- ---- and what follows
 
--- the verdict has the sense of document 01
-has : (C : Code) → Promises C → (w : ℕ) (v : Verdict) → verdict C w ≡ v → IsVerdict C w v
-has C P w v e = subst (IsVerdict C w) e (P .settled w .has)
-
 counted : (w d : ℕ) → w < 2 ^ 64 → d < 2 ^ 16 → off gridCode w d ≡ apart w d
 unfolding apart
 counted w d l h = dist-fields 8 8 w (codeword d) l (codeword-lt d h)
@@ -94,20 +90,20 @@ unfolding right?
 right (ofGrid d g) t =
     let h : d < 2 ^ 16 = ltb→lt d (2 ^ 16) (both-left (ltb d (2 ^ 16)) (eqb (codeword d) g) t) in
     let e : codeword d ≡ g = eqb→eq (codeword d) g (both-right (ltb d (2 ^ 16)) (eqb (codeword d) g) t) in
-    (subst (grid.Codeword d) e (is-codeword d h), has gridCode (promised .verdicts) g (clean d) (ap (verdict gridCode) (sym e) ∙ promised .verdicts .unharmed d h))
-right (read w (clean d)) t = has gridCode (promised .verdicts) w (clean d) (near w d 0 (lit≤ tt) t)
+    (subst (grid.Codeword d) e (is-codeword d h), has-verdict gridCode g (ap (verdict gridCode) (sym e) ∙ promised .verdicts .unharmed d h))
+right (read w (clean d)) t = has-verdict gridCode w (near w d 0 (lit≤ tt) t)
 right (read w (mended d zero)) t = absurd t
 right (read w (mended d (suc n))) t =
-    has gridCode (promised .verdicts) w (mended d (suc n))
+    has-verdict gridCode w
     (near w d (suc n) (leb→le (suc n) 7 (both-right (distant? w d (suc n)) (leb (suc n) 7) t)) (both-left (distant? w d (suc n)) (leb (suc n) 7) t))
-right (read w lost) t = has gridCode (promised .verdicts) w lost (far w t)
+right (read w lost) t = has-verdict gridCode w (far w t)
 right (read w tie) t = absurd t
 right (distant w d n) t = distance-is w d n t .1
 right (ofBlock d w) t =
     let h : d < 2 ^ 512 = ltb→lt d (2 ^ 512) (both-left (ltb d (2 ^ 512)) (eqb (block d) w) t) in
     let e : blockOf d ≡ w = same-block d h ∙ eqb→eq (block d) w (both-right (ltb d (2 ^ 512)) (eqb (block d) w) t) in (
       subst (blocks.Codeword d) e (block-promised .meets d h),
-      has blockCode (block-promised .verdicts) w (clean d) (ap (verdict blockCode) (sym e) ∙ block-promised .verdicts .unharmed d h),
+      has-verdict blockCode w (ap (verdict blockCode) (sym e) ∙ block-promised .verdicts .unharmed d h),
     )
 
 each : (cs : List Case) → T (every right? cs) → Hold cs

@@ -16,8 +16,12 @@ use Rattle.grid.specs.declared.Answer.{Answer}
 pub decoded-verdict : (w : ℕ) (rows : List ℕ) (a : Answer) → w < 2 ^ 64 → rows ≡ fields 8 8 w → Decoded rows a → means (a .verdict) ≡ verdict gridCode w
 decoded-verdict w rows a l e d = d .answer ∙ ap (verdict gridCode) (ap (joined 8) e ∙ joined-fields 8 8 w l)
 
+pub scrubbed-number : (w : ℕ) → w < 2 ^ 64 → joined 8 (fields 8 8 (scrubbed gridCode w)) ≡ scrubbed gridCode w
+scrubbed-number w l =
+    joined-fields 8 8 (scrubbed gridCode w) (scrubbed-lt gridCode (promised .verdicts) (2 ^ 64) codeword-lt w l)
+
 pub decoded-number : (w n : ℕ) (rows : List ℕ) (a : Answer) → w < 2 ^ 64 → rows ≡ fields 8 8 w → Decoded rows a → n ≡ joined 8 (a .grid .rows)
     → n ≡ scrubbed gridCode w
 decoded-number w n rows a l e d p =
     p ∙ ap (joined 8) (d .repaired ∙ ap (λ (x : ℕ). fields 8 8 (scrubbed gridCode x)) (ap (joined 8) e ∙ joined-fields 8 8 w l))
-    ∙ joined-fields 8 8 (scrubbed gridCode w) (scrubbed-lt gridCode (promised .verdicts) (2 ^ 64) codeword-lt w l)
+    ∙ scrubbed-number w l

@@ -10,11 +10,12 @@ use lib.ListN.{length, getD}
 use Rattle.words.specs.Word.{dist}
 use Rattle.words.specs.Fields.{fields, joined}
 use Rattle.words.proofs.Fields.{joined-lt, joined-fields, fields-joined}
-use Rattle.codes.specs.Verdict.{Verdict, clean, mended, lost, tie, IsVerdict, answered, verdict, flipsOf, refusal, repaired, scrubbed}
+use Rattle.codes.specs.Verdict.{Verdict, clean, mended, lost, tie, answered, verdict, flipsOf, refusal, repaired, scrubbed}
 use Rattle.codes.specs.Promises.{Demand3}
 use Rattle.codes.specs.Tally.{isClean}
+use Rattle.codes.proofs.Verdict.{has-verdict}
 use Rattle.codes.proofs.Promises.{answered-repaired, clean-word}
-use Rattle.codes.proofs.Tally.{one-refusal, as-it-was, scrubbed-lt}
+use Rattle.codes.proofs.Tally.{one-refusal, as-it-was}
 use Rattle.grid_code.specs.Code.{codeword, gridCode}
 use Rattle.grid_code.proofs.Promises.{promised}
 use Rattle.grid_code.proofs.Distance.{codeword-lt}
@@ -24,6 +25,7 @@ use Rattle.grid.specs.Promises.{DecodePromises, CleanPromises, OneOutcom
 use Rattle.grid.specs.declared.Answer.{Answer}
 use Rattle.grid.specs.declared.Verdict as enum
 use Rattle.grid.specs.declared.Verdict.the-variants.{Clean, Mended, Lost, Tie}
+use Rattle.grid.proofs.Numbers.{scrubbed-number}
 use Rattle.grid.proofs.Verdicts.{judged-clean}
 
 module _ (rows : List ℕ) (r : Answer) (h : Decoded rows r) where
@@ -43,7 +45,7 @@ module _ (rows : List ℕ) (r : Answer) (h : Decoded rows r) where
       ap flipsOf (h .answer) ∙ promised .verdicts .changed (joined 8 rows)
       ∙ ap (dist (joined 8 rows))
       (sym (ap (joined 8) (h .repaired)
-      ∙ joined-fields 8 8 (scrubbed gridCode (joined 8 rows)) (scrubbed-lt gridCode (promised .verdicts) (2 ^ 64) codeword-lt (joined 8 rows) l)))
+      ∙ scrubbed-number (joined 8 rows) l))
 
   -- the rows are those of a word whose verdict is known
   of-word : (w : ℕ) (v : Verdict) → joined 8 rows ≡ w → verdict gridCode w ≡ v
@@ -89,7 +91,7 @@ same-answer rows a b p q = λ i. record {
 
 pub decode-promised : DecodePromises
 decode-promised = record {
-  is-verdict = λ rows r h. subst (IsVerdict gridCode (joined 8 rows)) (sym (h .answer)) (promised .verdicts .settled (joined 8 rows) .has);
+  is-verdict = λ rows r h. has-verdict gridCode (joined 8 rows) (sym (h .answer));
   only = λ rows r v h p. promised .verdicts .settled (joined 8 rows) .one v p ∙ sym (h .answer);
   demand3 = λ rows r h. subst (Demand3 gridCode (joined 8 rows)) (sym (h .answer)) (promised .verdicts .demand3 (joined 8 rows));
   numbers = numbers;

@@ -9,7 +9,7 @@ use lib.Seq.{length-take-le}
 use Rattle.words.specs.Fields.{fields, joined}
 use Rattle.words.proofs.Fields.{joined-fields}
 use Rattle.words.proofs.Lists.{partly, partly-at, partly-step}
-use Rattle.codes.specs.Verdict.{Verdict, clean, mended, lost, flipsOf, verdict, repaired, scrubbed}
+use Rattle.codes.specs.Verdict.{Verdict, clean, flipsOf, verdict, repaired, scrubbed}
 use Rattle.codes.specs.Tally.{isClean, isMended, isLost}
 use Rattle.codes.proofs.Promises.{clean-word}
 use Rattle.codes.proofs.Tally.{one-kind, sum-bound, sum-step, few-flips}

@@ -10,7 +10,7 @@ use lib.ListN.{length, getD, length-map}
 use borrow.Author.Tests.{le-leb, lt-leb}
 use Rattle.words.specs.Word.{choose}
 use Rattle.words.proofs.Lists.{map-getD, map-twice}
-use Rattle.codes.specs.Verdict.{clean, mended, lost, verdict, repaired, scrubbed}
+use Rattle.codes.specs.Verdict.{clean, verdict, repaired, scrubbed}
 use Rattle.codes.specs.Tally.{isMended, sumBy, TallyPromises}
 use Rattle.codes.proofs.Tally.{unmended, tallies}
 use Rattle.grid_code.specs.Code.{gridCode}
