@@ -25,7 +25,7 @@ pub record GridPromises : Type 0 where
   pub one-value : (d e g : ℕ) → d < 2 ^ 16 → e < 2 ^ 16 → Codeword d g → Codeword e g → d ≡ e
   -- .. and the data places of a grid are its data.
   pub data-places : (d g : ℕ) → d < 2 ^ 16 → Codeword d g → dataOf g ≡ d
-  -- Each row of a codeword is in the row code and each column in the column code, two codes of distance 4: from that the 16 follow.
+  -- Each row of a codeword is in the row code and each column in the column code, two codes of distance 4: from that the 16 follows.
   pub in-product : (d : ℕ) → d < 2 ^ 16 → InProduct sides (rowOf (codeword d))
   -- The constants: radius 7, 64 places; two different codewords differ in at least 16 places, and some in no more.
   pub constants : States gridCode 7 64 16
