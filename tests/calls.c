@@ -2,7 +2,7 @@
    hex, numbers decimal, and `-` is the empty slice or list.
 
      genc N                                 HEX16
-     gdec HEX16                             clean|mended|lost|tie data D flips N repaired HEX16
+     gdec HEX16                             clean|mended|lost data D flips N repaired HEX16
      page HEX16 ..                          G C M L F | HEX16 ..
      benc HEX4 ..                           HEX4 ..
      bscrub HEX4 ..                         clean|mended flips N HEX4 ..
@@ -21,7 +21,7 @@ int fflush(void *);
 long getline(char **, unsigned long *, void *);
 extern void *stdin;
 
-enum { BLOCK_WORDS = 38, NUMBERS = 5, TALLIES = 10, LARGEST = 65535, LONGEST_ROOM = 1000000, LOST = 1, TIE = 5, BROKEN = 4 };
+enum { BLOCK_WORDS = 38, NUMBERS = 5, TALLIES = 10, LARGEST = 65535, LONGEST_ROOM = 1000000, LOST = 1, BROKEN = 4 };
 
 /* what a call returned, if it is a refusal */
 static int refused(uint32_t number, uint64_t place)
@@ -61,7 +61,7 @@ static int gdec(char **words, uint64_t n)
         return 0;
     grid_decode(&read, 1, &verdict, 1, &repaired, 1);
     unsigned data = verdict & LARGEST, flips = verdict >> 16 & 255, number = (unsigned)(verdict >> 24);
-    printf("%s ", number == LOST ? "lost" : number == TIE ? "tie" : flips == 0 ? "clean" : "mended");
+    printf("%s ", number == LOST ? "lost" : flips == 0 ? "clean" : "mended");
     printf("data %u flips %u repaired ", data, flips);
     print_grids(&repaired, 1);
     return 1;

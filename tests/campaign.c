@@ -5,7 +5,7 @@
    sets for each number of flips. The data is drawn for each word. By the library's answer a word is
 
      undone   if what was written has come back and the flips are counted right;
-     refused  if it is lost or a tie, and stays as it was read;
+     refused  if it is lost, and stays as it was read;
      wrong    in all other cases.
 
    The status is 1 if the two answers to a word differ in anything, if up to the radius a word is not undone, or if a grid with 8 flips is
@@ -97,7 +97,7 @@ static void judge(struct campaign *c, struct row *r, const struct damaged *d, st
     flip(&second, code->flip_second);
     int agree = library.returned == second.returned && same(code, &library.left, &second.left);
     int undone = library.returned == d->undone && same(code, &library.left, &d->written);
-    int refused = (library.returned == code->lost || library.returned == code->tie) && same(code, &library.left, &d->read);
+    int refused = library.returned == code->lost && same(code, &library.left, &d->read);
     int kept = r->flips <= code->undone ? undone : r->flips <= code->refused ? refused : 1;
     if (!(agree && kept) && c->agree.differ + c->promise.differ == 0) {
         c->word = *d;

@@ -34,7 +34,7 @@ struct code {
     const char *name, *promise;
     const unsigned *flips;
     unsigned rows, places, every, undone, refused;
-    uint64_t lost, tie, *flip_library, *flip_second;
+    uint64_t lost, *flip_library, *flip_second;
     uint64_t (*write)(union bits *, unsigned flips);
     void (*answer)(const struct damaged *, uint64_t n, struct said *library, struct said *second);
     void (*print)(const union bits *);
@@ -103,7 +103,6 @@ static const struct code grid = {
     .undone = 7,
     .refused = 8,
     .lost = 1 << 24,
-    .tie = 5 << 24,
     .flip_library = &flip_library[0],
     .flip_second = &flip_second[0],
     .write = write_grid,
@@ -121,7 +120,6 @@ static const struct code block = {
     .undone = 2,
     .refused = 2,
     .lost = 2 << 8,
-    .tie = 5 << 8,
     .flip_library = &flip_library[1],
     .flip_second = &flip_second[1],
     .write = write_block,

@@ -1,9 +1,13 @@
 /* The second program's grid and page. The sentences of document 01 stand above what they say. */
 #include "second.h"
 
+int printf(const char *, ...);
+void exit(int);
 void *memchr(const void *, int, unsigned long);
 
-enum { VALUES = 65536, RADIUS = 7, LONGEST_PAGE = 512, LENGTH_NOT_ALLOWED = 3, LOST = 1, TIE = 5 };
+enum { VALUES = 65536, LONGEST_PAGE = 512, LENGTH_NOT_ALLOWED = 3, LOST = 1 };
+
+unsigned second_radius = 7;
 
 /* A grid as document 01 has it: what stands at row r, place c. */
 struct places {
@@ -103,12 +107,16 @@ struct answer second_decode(uint64_t word)
     for (unsigned d = 0; d < VALUES; d++)
         n = counts[d] < n ? counts[d] : n;
 
-    /* If n is over the radius: lost. If two codewords are at n and n is within the radius: tie. On refusal the grid as read. */
-    if (n > RADIUS)
+    /* If n is over the radius: lost. On refusal the grid as read. */
+    if (n > second_radius)
         return (struct answer){.number = LOST, .repaired = word};
+
+    /* No word has two nearest codewords within the radius. */
     const uint8_t *one = memchr(counts, n, VALUES);
-    if (memchr(one + 1, n, (unsigned long)(end - one - 1)) != 0)
-        return (struct answer){.number = TIE, .repaired = word};
+    if (memchr(one + 1, n, (unsigned long)(end - one - 1)) != 0) {
+        printf("FAILED the second program, a tie: two codewords are %u places from the grid %016llX\n", n, (unsigned long long)word);
+        exit(1);
+    }
 
     /* Otherwise the codeword is the answer: clean if n = 0, mended with n flips if not. */
     uint16_t data = (uint16_t)(one - counts);
@@ -121,8 +129,7 @@ uint32_t second_scrub(uint64_t *page, uint64_t n, uint32_t tally[5])
     if (n > LONGEST_PAGE)
         return LENGTH_NOT_ALLOWED;
 
-    /* Each mended grid is replaced by its codeword; clean, lost and tied grids are kept. Ties count as lost. Flips is the sum over
-       mended grids. */
+    /* Each mended grid is replaced by its codeword; clean and lost grids are kept. Flips is the sum over mended grids. */
     uint32_t clean = 0, mended = 0, lost = 0, flips = 0;
     for (uint64_t k = 0; k < n; k++) {
         struct answer a = second_decode(page[k]);

@@ -1,11 +1,15 @@
 /* The second program's block. The sentences of document 01 stand above what they say. */
 #include "second_block.h"
 
+int printf(const char *, ...);
+void exit(int);
 int memcmp(const void *, const void *, unsigned long);
 void qsort(void *, unsigned long, unsigned long, int (*)(const void *, const void *));
 
 enum { DATA = 32, CHECKS = 6, WORDS = DATA + CHECKS, BITS = 16, PLACES = WORDS * BITS, PATTERNS = PLACES + PLACES * (PLACES - 1) / 2 };
-enum { LENGTH_NOT_ALLOWED = 3, LOST = 2, TIE = 5 };
+enum { LENGTH_NOT_ALLOWED = 3, LOST = 2 };
+
+unsigned second_block_system = 1;
 
 /* A block as document 01 has it: what stands at bit c of word r. */
 struct places {
@@ -32,7 +36,7 @@ void second_block(const uint16_t values[DATA], uint16_t words[WORDS])
             b.at[35 + t / 16][t % 16] ^= b.at[r][c];
 
             /* Bit 15 of word 37 is the system parity: the parity of the 512 data bits alone. */
-            b.at[37][15] ^= b.at[r][c];
+            b.at[37][15] ^= b.at[r][c] & second_block_system;
         }
 
     for (unsigned r = 0; r < WORDS; r++) {
@@ -148,12 +152,19 @@ struct block_answer second_block_scrub(uint16_t *words, uint64_t n)
     if (is_zero(&s))
         return (struct block_answer){0};
 
-    /* If the least number of places is over the radius: lost. If two codewords are at it: tie. On refusal the block is untouched. */
+    /* If the least number of places is over the radius: lost. On refusal the block is untouched. */
     const struct pattern *one = first(&s), *next = one + 1, *end = patterns + PATTERNS;
     if (one == end || order(&one->syndrome, &s) != 0)
         return (struct block_answer){.number = LOST};
-    if (next != end && order(&next->syndrome, &s) == 0 && next->flips == one->flips)
-        return (struct block_answer){.number = TIE};
+
+    /* No word has two nearest codewords within the radius. */
+    if (next != end && order(&next->syndrome, &s) == 0 && next->flips == one->flips) {
+        printf("FAILED the second program, a tie: two codewords are %u places from the block", one->flips);
+        for (unsigned r = 0; r < WORDS; r++)
+            printf(" %04X", words[r]);
+        printf("\n");
+        exit(1);
+    }
 
     /* Otherwise the codeword is the answer, and afterwards the 38 words are the codeword. */
     for (unsigned k = 0; k < one->flips; k++)

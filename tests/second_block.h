@@ -8,14 +8,17 @@ void second_block(const uint16_t values[32], uint16_t words[38]);
 /* The same for slices of any length. It returns document 01's number, 0 or 3. */
 uint32_t second_block_encode(const uint16_t *values, uint64_t n, uint16_t *words, uint64_t m);
 
-/* What a scrub returns: document 01's number (0 where nothing is refused, 2 lost, 3 a length not allowed, 5 tie) and the flips (0 on
-   refusal). */
+/* What a scrub returns: document 01's number (0 where nothing is refused, 2 lost, 3 a length not allowed) and the flips (0 on refusal). */
 struct block_answer {
     uint32_t number, flips;
 };
 
-/* A block scrub by the definition: every pattern of up to two flips is in a table. */
+/* A block scrub by the definition: every pattern of up to two flips is in a table. Where two codewords are nearest, within the radius, it
+   prints a line that begins with FAILED, and the program ends with status 1: no word has such a tie. */
 struct block_answer second_block_scrub(uint16_t *words, uint64_t n);
+
+/* 1. `ties` sets it to 0, to see that a tie is found: the system parity is left out, and codewords may be four places apart. */
+extern unsigned second_block_system;
 
 /* How many different syndromes other than 0 the patterns of one and two flips have: as many as there are patterns, if each can be told
    from all others and from no flip. */

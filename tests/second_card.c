@@ -131,7 +131,7 @@ static struct answer decode(uint64_t word)
     return kept[k].answer;
 }
 
-/* Grids, clean, mended, lost and flips. Ties count as lost; flips is the sum over mended ones. */
+/* Grids, clean, mended, lost and flips. Flips is the sum over mended ones. */
 static void count(uint32_t tally[5], uint32_t number, uint32_t flips)
 {
     tally[0]++;

@@ -16,7 +16,7 @@ use Rattle.words.specs.Fields.{fields, joined, Below}
 use Rattle.words.proofs.Dist.{dist-self}
 use Rattle.words.proofs.Fields.{length-fields, take-fields, joined-fields, joined-lt, fields-joined}
 use Rattle.codes.specs.Verdict as codes
-use Rattle.codes.specs.Verdict.{clean, mended, lost, tie, answered, refusal, flipsOf, verdict, repaired, scrubbed}
+use Rattle.codes.specs.Verdict.{clean, mended, lost, answered, refusal, flipsOf, verdict, repaired, scrubbed}
 use Rattle.codes.proofs.Promises.{found, none-near, answered-repaired}
 use Rattle.codes.proofs.Tally.{one-refusal, as-it-was, scrubbed-lt, tallies, again-number, again-no-flips, codeword-now}
 use Rattle.block_code.specs.Equations.{Codeword}
@@ -28,7 +28,7 @@ use Rattle.block.specs.Answer.{answerOf, numberOf, flipsIn, encodeNumber
 use Rattle.block.specs.Calls.{allowed, Encoded, Scrubbed}
 use Rattle.block.specs.Promises.{EncodePromises, ScrubPromises, OneOutcome}
 use Rattle.block.specs.declared.Outcome.{Outcome}
-use Rattle.block.specs.declared.Outcome.the-variants.{Clean, Tie, Length}
+use Rattle.block.specs.declared.Outcome.the-variants.{Clean, Length}
 use Rattle.block.specs.declared.Written.{Written}
 use Rattle.block.specs.declared.Written.the-variants.{Done, Length as OtherLength}
 use Rattle.block.proofs.Outcomes.{block-lt, back, is-allowed, not-allowed}
@@ -92,13 +92,11 @@ number-of : (v : codes.Verdict) → numberOf (answerOf v) ≡ refusal 2 v
 number-of (clean d) = refl
 number-of (mended d n) = refl
 number-of lost = refl
-number-of tie = refl
 
 flips-in : (v : codes.Verdict) → flipsIn (answerOf v) ≡ flipsOf v
 flips-in (clean d) = refl
 flips-in (mended d n) = refl
 flips-in lost = refl
-flips-in tie = refl
 
 -- a block was judged, or its length is another
 abbrev Judged : List ℕ → List ℕ → Outcome → Type 0
@@ -138,7 +136,7 @@ scrubbed-number ws exit n small x =
     (scrubbed-lt blockCode (promised .verdicts) (2 ^ 608) codeword-lt (joined 16 ws) (block-lt ws (n, small)))
 
 numbers : (ws exit : List ℕ) (r : Outcome) → length ws ≡ 38 → Judged ws exit r → (numberOf r ≡ 0) ⊎ (numberOf r ≡ 2)
-numbers ws exit r m (inl (n, a, x)) = go (one-refusal 2 v (promised .verdicts .no-tie (joined 16 ws)))
+numbers ws exit r m (inl (n, a, x)) = go (one-refusal 2 v)
   where
     v : codes.Verdict
     v = verdict blockCode (joined 16 ws)
@@ -147,14 +145,6 @@ numbers ws exit r m (inl (n, a, x)) = go (one-refusal 2 v (promised .verdicts .n
     go (inl z) = inl (ap numberOf a ∙ number-of v ∙ z)
     go (inr z) = inr (ap numberOf a ∙ number-of v ∙ z)
 numbers ws exit r m (inr (n, a, x)) = absurd (n m)
-
-no-tie : (ws exit : List ℕ) (r : Outcome) → Judged ws exit r → r ≢ Tie
-no-tie ws exit r (inl (n, a, x)) e = go (numbers ws exit r n (inl (n, a, x)))
-  where
-    go : (numberOf r ≡ 0) ⊎ (numberOf r ≡ 2) → ⊥
-    go (inl z) = omega (arith, z, ap numberOf e)
-    go (inr z) = omega (arith, z, ap numberOf e)
-no-tie ws exit r (inr (n, a, x)) e = absurd (omega (arith, ap numberOf a, ap numberOf e))
 
 -- where nothing is refused
 some-codeword : (ws exit : List ℕ) (r : Outcome) → Judged ws exit r → numberOf r ≡ 0 → (d : ℕ) × (d < 2 ^ 512) × (exit ≡ fields 16 38 (codeword d))
@@ -230,6 +220,7 @@ again ws once twice r s small (inr (n, a, x)) (inr (m, b, y)) = (y, ap flipsIn b
 pub scrub-promised : ScrubPromises
 scrub-promised = record {
   refused = λ ws exit r ne h. refused ws exit r ne (judged ws exit r h);
+  no-tie = λ ws. promised .verdicts .no-tie (joined 16 ws);
   numbers = λ ws exit r n h. numbers ws exit r n (judged ws exit r h);
   is-verdict = λ ws exit r v n h p.
       of-word ws exit r (joined 16 ws) v n refl (sym (promised .verdicts .settled (joined 16 ws) .one v p)) (judged ws exit r h);
@@ -240,7 +231,6 @@ scrub-promised = record {
       (judged ws exit r h);
   beyond = λ ws exit r n h far.
       of-word ws exit r (joined 16 ws) lost n refl (none-near blockCode (joined 16 ws) far) (judged ws exit r h) .0;
-  no-tie = λ ws exit r h. no-tie ws exit r (judged ws exit r h);
   codeword-now = λ ws exit r h z. let (d, l, x) = some-codeword ws exit r (judged ws exit r h) z in is-codeword d exit l x;
   as-read = λ ws exit r small h. as-read ws exit r small (judged ws exit r h);
   changed = λ ws exit r small h. changed ws exit r small (judged ws exit r h);

@@ -1,9 +1,9 @@
 -- What the answers of the block's calls say, in document 01's terms. Assumes nothing.
 use Prim.Native.Nat.{ℕ}
 use Rattle.codes.specs.Verdict as codes
-use Rattle.codes.specs.Verdict.{clean, mended, lost, tie}
+use Rattle.codes.specs.Verdict.{clean, mended, lost}
 use Rattle.block.specs.declared.Outcome.{Outcome}
-use Rattle.block.specs.declared.Outcome.the-variants.{Clean, Mended, Lost, Tie, Length}
+use Rattle.block.specs.declared.Outcome.the-variants.{Clean, Mended, Lost, Length}
 use Rattle.block.specs.declared.Written.{Written}
 use Rattle.block.specs.declared.Written.the-variants.{Done, Length as OtherLength}
 
@@ -12,15 +12,12 @@ abbrev pub answerOf : codes.Verdict → Outcome
 answerOf (clean d) = Clean
 answerOf (mended d n) = Mended n
 answerOf lost = Lost
-answerOf tie = Tie
 
--- Document 01's number for each answer of a scrub: 2 for lost, 5 for tie, 3 for a length that is not allowed, and 0 where nothing is
--- refused; ..
+-- Document 01's number for each answer of a scrub: 2 for lost, 3 for a length that is not allowed, and 0 where nothing is refused; ..
 abbrev pub numberOf : Outcome → ℕ
 numberOf Clean = 0
 numberOf (Mended n) = 0
 numberOf Lost = 2
-numberOf Tie = 5
 numberOf Length = 3
 
 -- .. its flips; ..
@@ -28,7 +25,6 @@ abbrev pub flipsIn : Outcome → ℕ
 flipsIn Clean = 0
 flipsIn (Mended n) = n
 flipsIn Lost = 0
-flipsIn Tie = 0
 flipsIn Length = 0
 
 -- .. and the number for each answer of the encoder.

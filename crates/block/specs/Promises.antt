@@ -10,13 +10,13 @@ use lib.ListN.{length, take}
 use Rattle.words.specs.Word.{dist}
 use Rattle.words.specs.Fields.{fields, joined, Below}
 use Rattle.codes.specs.Verdict as codes
-use Rattle.codes.specs.Verdict.{IsVerdict, refusal, flipsOf, repaired}
+use Rattle.codes.specs.Verdict.{IsVerdict, Tie, refusal, flipsOf, repaired}
 use Rattle.block_code.specs.Equations.{Codeword}
 use Rattle.block_code.specs.Code.{codeword, blockCode}
 use Rattle.block.specs.Answer.{answerOf, numberOf, flipsIn, encodeNumberOf}
 use Rattle.block.specs.Calls.{Encoded, Scrubbed}
 use Rattle.block.specs.declared.Outcome.{Outcome}
-use Rattle.block.specs.declared.Outcome.the-variants.{Clean, Lost, Tie}
+use Rattle.block.specs.declared.Outcome.the-variants.{Clean, Lost}
 use Rattle.block.specs.declared.Written.{Written}
 
 -- What the encoder promises.
@@ -36,9 +36,10 @@ pub record EncodePromises : Type 0 where
 pub record ScrubPromises : Type 0 where
   -- Any length but 38 is refusal 3, and nothing is written.
   pub refused : (ws exit : List ℕ) (r : Outcome) → length ws ≢ 38 → Scrubbed ws r exit → (numberOf r ≡ 3) × (exit ≡ ws)
-  -- 38 words are accepted: the number is 0, or 2 for lost. Tie never happens.
+  -- No block has two nearest codewords within 2 places, so there is no tie among the answers: ..
+  pub no-tie : (ws : List ℕ) → Tie blockCode (joined 16 ws) → ⊥
+  -- .. 38 words are accepted, and the number is 0, or 2 for lost.
   pub numbers : (ws exit : List ℕ) (r : Outcome) → length ws ≡ 38 → Scrubbed ws r exit → (numberOf r ≡ 0) ⊎ (numberOf r ≡ 2)
-  pub no-tie : (ws exit : List ℕ) (r : Outcome) → Scrubbed ws r exit → r ≢ Tie
   -- Answer and words are those of document 01's verdict, the codeword or the words as they were; and every word has a verdict.
   pub is-verdict : (ws exit : List ℕ) (r : Outcome) (v : codes.Verdict) → length ws ≡ 38 → Scrubbed ws r exit
       → IsVerdict blockCode (joined 16 ws) v → (r ≡ answerOf v) × (exit ≡ fields 16 38 (repaired blockCode (joined 16 ws) v))

@@ -37,7 +37,6 @@ pub enum Outcome {
     Clean,
     Mended { flips: u32 },
     Lost,
-    Tie,
     Length,
 }
 

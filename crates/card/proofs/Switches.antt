@@ -15,7 +15,7 @@ use Rattle.words.specs.Bytes.{laid}
 use Rattle.words.proofs.Bytes.{below-map}
 use Rattle.words.proofs.Lists.{map-getD}
 use Rattle.words.proofs.Dist.{dist-self}
-use Rattle.codes.specs.Verdict.{Verdict, clean, mended, lost, tie, off, verdict, repaired, scrubbed}
+use Rattle.codes.specs.Verdict.{Verdict, clean, mended, lost, off, verdict, repaired, scrubbed}
 use Rattle.codes.specs.Promises.{Hands}
 use Rattle.grid_code.specs.Code.{codeword, gridCode}
 use Rattle.grid_code.proofs.Promises.{promised}
@@ -39,13 +39,11 @@ handed-data : (v : Verdict) (d n : ℕ) → Hands v d n → dataShown v ≡ d
 handed-data (clean e) d n h = h .0
 handed-data (mended e m) d n h = h .0
 handed-data lost d n h = absurd h
-handed-data tie d n h = absurd h
 
 handed-word : (w : ℕ) (v : Verdict) (d n : ℕ) → Hands v d n → repaired gridCode w v ≡ codeword d
 handed-word w (clean e) d n h = ap codeword (h .0)
 handed-word w (mended e m) d n h = ap codeword (h .0)
 handed-word w lost d n h = absurd h
-handed-word w tie d n h = absurd h
 
 -- a list, by its places
 mapped : (f : ℕ → ℕ) (ws ys : List ℕ) → length ws ≡ length ys → ((i : ℕ) → i < length ys → f (getD ws i 0) ≡ getD ys i 0) → map f ws ≡ ys

@@ -12,9 +12,8 @@ use Rattle.words.proofs.Dist.{dist-sym}
 use Rattle.words.proofs.Fields.{dist-fields}
 use Rattle.words.proofs.Test.{both-left, both-right, every}
 use Rattle.words.proofs.Xor.{xor-cancel-l}
-use Rattle.codes.specs.Verdict.{clean, mended, lost, tie, off, answered, verdict}
-use Rattle.codes.proofs.Verdict.{has-verdict}
-use Rattle.codes.proofs.Promises.{found}
+use Rattle.codes.specs.Verdict.{clean, mended, lost, off, answered, verdict}
+use Rattle.codes.proofs.Promises.{found, has-verdict}
 use Rattle.grid_code.specs.Equations as grid
 use Rattle.grid_code.specs.Code.{codeword, gridCode}
 use Rattle.grid_code.specs.Sides.{rowOf}
@@ -49,7 +48,6 @@ right? (read w (clean d)) = distant? w d 0
 right? (read w (mended d zero)) = false
 right? (read w (mended d (suc n))) = distant? w d (suc n) && leb (suc n) 7
 right? (read w lost) = distant? w 0 8
-right? (read w tie) = false
 right? (distant w d n) = distant? w d n
 right? (ofBlock d w) = ltb d (2 ^ 512) && eqb (block d) w
 
@@ -90,20 +88,19 @@ unfolding right?
 right (ofGrid d g) t =
     let h : d < 2 ^ 16 = ltb→lt d (2 ^ 16) (both-left (ltb d (2 ^ 16)) (eqb (codeword d) g) t) in
     let e : codeword d ≡ g = eqb→eq (codeword d) g (both-right (ltb d (2 ^ 16)) (eqb (codeword d) g) t) in
-    (subst (grid.Codeword d) e (is-codeword d h), has-verdict gridCode g (ap (verdict gridCode) (sym e) ∙ promised .verdicts .unharmed d h))
-right (read w (clean d)) t = has-verdict gridCode w (near w d 0 (lit≤ tt) t)
+    (subst (grid.Codeword d) e (is-codeword d h), has-verdict gridCode (promised .verdicts) g (ap (verdict gridCode) (sym e) ∙ promised .verdicts .unharmed d h))
+right (read w (clean d)) t = has-verdict gridCode (promised .verdicts) w (near w d 0 (lit≤ tt) t)
 right (read w (mended d zero)) t = absurd t
 right (read w (mended d (suc n))) t =
-    has-verdict gridCode w
+    has-verdict gridCode (promised .verdicts) w
     (near w d (suc n) (leb→le (suc n) 7 (both-right (distant? w d (suc n)) (leb (suc n) 7) t)) (both-left (distant? w d (suc n)) (leb (suc n) 7) t))
-right (read w lost) t = has-verdict gridCode w (far w t)
-right (read w tie) t = absurd t
+right (read w lost) t = has-verdict gridCode (promised .verdicts) w (far w t)
 right (distant w d n) t = distance-is w d n t .1
 right (ofBlock d w) t =
     let h : d < 2 ^ 512 = ltb→lt d (2 ^ 512) (both-left (ltb d (2 ^ 512)) (eqb (block d) w) t) in
     let e : blockOf d ≡ w = same-block d h ∙ eqb→eq (block d) w (both-right (ltb d (2 ^ 512)) (eqb (block d) w) t) in (
       subst (blocks.Codeword d) e (block-promised .meets d h),
-      has-verdict blockCode w (ap (verdict blockCode) (sym e) ∙ block-promised .verdicts .unharmed d h),
+      has-verdict blockCode (block-promised .verdicts) w (ap (verdict blockCode) (sym e) ∙ block-promised .verdicts .unharmed d h),
     )
 
 each : (cs : List Case) → T (every right? cs) → Hold cs

@@ -1,6 +1,6 @@
 -- What specs/Promises.antt says of the grid's calls holds. Assumes nothing.
 use mathlib.Core.Path.{_≡_, refl, sym, ap, _∙_, subst}
-use mathlib.Core.Logic.{_≢_, _⊎_}
+use mathlib.Core.Logic.{_≢_}
 use mathlib.Core.List.{List}
 use Prim.Native.Nat.{ℕ, _^_, _≤_, _<_}
 use lib.Bits.{bitXor, xor-lt}
@@ -10,11 +10,10 @@ use lib.ListN.{length, getD}
 use Rattle.words.specs.Word.{dist}
 use Rattle.words.specs.Fields.{fields, joined}
 use Rattle.words.proofs.Fields.{joined-lt, joined-fields, fields-joined}
-use Rattle.codes.specs.Verdict.{Verdict, clean, mended, lost, tie, answered, verdict, flipsOf, refusal, repaired, scrubbed}
+use Rattle.codes.specs.Verdict.{Verdict, clean, mended, lost, answered, verdict, flipsOf, refusal, repaired, scrubbed}
 use Rattle.codes.specs.Promises.{Demand3}
 use Rattle.codes.specs.Tally.{isClean}
-use Rattle.codes.proofs.Verdict.{has-verdict}
-use Rattle.codes.proofs.Promises.{answered-repaired, clean-word}
+use Rattle.codes.proofs.Promises.{has-verdict, answered-repaired, clean-word}
 use Rattle.codes.proofs.Tally.{one-refusal, as-it-was}
 use Rattle.grid_code.specs.Code.{codeword, gridCode}
 use Rattle.grid_code.proofs.Promises.{promised}
@@ -24,14 +23,11 @@ use Rattle.grid.specs.Calls.{Decoded}
 use Rattle.grid.specs.Promises.{DecodePromises, CleanPromises, OneOutcome}
 use Rattle.grid.specs.declared.Answer.{Answer}
 use Rattle.grid.specs.declared.Verdict as enum
-use Rattle.grid.specs.declared.Verdict.the-variants.{Clean, Mended, Lost, Tie}
+use Rattle.grid.specs.declared.Verdict.the-variants.{Clean, Mended, Lost}
 use Rattle.grid.proofs.Numbers.{scrubbed-number}
 use Rattle.grid.proofs.Verdicts.{judged-clean}
 
 module _ (rows : List ℕ) (r : Answer) (h : Decoded rows r) where
-  numbers : (numberOf (r .verdict) ≡ 0) ⊎ (numberOf (r .verdict) ≡ 1)
-  numbers = one-refusal 1 (means (r .verdict)) (λ e. promised .verdicts .no-tie (joined 8 rows) (sym (h .answer) ∙ e))
-
   as-read : length rows ≡ 8 → ((i : ℕ) → getD rows i 0 < 2 ^ 8) → numberOf (r .verdict) ≢ 0 → r .grid .rows ≡ rows
   as-read n small refused =
       h .repaired
@@ -74,14 +70,12 @@ told : Verdict → enum.Verdict
 told (clean d) = Clean d
 told (mended d n) = Mended d n
 told lost = Lost
-told tie = Tie
 
 told-means : (v : enum.Verdict) → told (means v) ≡ v
 unfolding told
 told-means (Clean d) = refl
 told-means (Mended d n) = refl
 told-means Lost = refl
-told-means Tie = refl
 
 same-answer : (rows : List ℕ) (a b : Answer) → Decoded rows a → Decoded rows b → a ≡ b
 same-answer rows a b p q = λ i. record {
@@ -91,11 +85,11 @@ same-answer rows a b p q = λ i. record {
 
 pub decode-promised : DecodePromises
 decode-promised = record {
-  is-verdict = λ rows r h. has-verdict gridCode (joined 8 rows) (sym (h .answer));
+  is-verdict = λ rows r h. has-verdict gridCode (promised .verdicts) (joined 8 rows) (sym (h .answer));
   only = λ rows r v h p. promised .verdicts .settled (joined 8 rows) .one v p ∙ sym (h .answer);
   demand3 = λ rows r h. subst (Demand3 gridCode (joined 8 rows)) (sym (h .answer)) (promised .verdicts .demand3 (joined 8 rows));
-  numbers = numbers;
-  no-tie = λ rows r h e. promised .verdicts .no-tie (joined 8 rows) (sym (h .answer) ∙ e);
+  no-tie = λ rows. promised .verdicts .no-tie (joined 8 rows);
+  numbers = λ rows r h. one-refusal 1 (means (r .verdict));
   changed = λ rows r n small h. changed rows r h n small;
   as-read = λ rows r n small h refused. as-read rows r h n small refused;
   encoded = λ d rows r l e h.

@@ -13,7 +13,7 @@ use borrow.Author.Tests.{eq-eqb, ne-eqb, eqb-true}
 use Rattle.words.specs.Word.{dist}
 use Rattle.words.specs.Fields.{fields, joined, Below}
 use Rattle.words.proofs.Bit.{and-twice}
-use Rattle.codes.specs.Verdict.{Verdict, clean, mended, lost, tie, answered, verdict, repaired, scrubbed}
+use Rattle.codes.specs.Verdict.{Verdict, clean, mended, lost, answered, verdict, repaired, scrubbed}
 use Rattle.codes.specs.Tally.{isClean}
 use Rattle.codes.proofs.Promises.{none-near, found, clean-word}
 use Rattle.codes.proofs.Tally.{clean-of}
@@ -69,7 +69,6 @@ module _ (rows : List ℕ) (eight : length rows ≡ 8) (small : Below 8 rows) (w
           eq-eqb number word (completed d l (taken ∙ ap (λ (x : ℕ). bitAnd x 0x0F0F_0F0F) w) ∙ sym w)
       go (mended d n) e = ne-eqb number word (none e refl)
       go lost e = ne-eqb number word (none e refl)
-      go tie e = ne-eqb number word (none e refl)
 
   pub is-clean : (places data₁ : ℕ) → data₁ < 2 ^ 16 → places ≡ bitAnd word 0x0F0F_0F0F
       → (bitAnd places 0x0F0F_0F0F ≡ places → bitAnd (codeword data₁) 0x0F0F_0F0F ≡ places) → Judged rows true

@@ -10,7 +10,7 @@ use lib.Count.{ones}
 use lib.ListN.{length}
 use Rattle.words.specs.Word.{dist}
 use Rattle.words.specs.Fields.{fields, joined, Below}
-use Rattle.codes.specs.Verdict.{Verdict, clean, lost, tie, IsVerdict, answered, flipsOf}
+use Rattle.codes.specs.Verdict.{Verdict, clean, lost, IsVerdict, Tie, answered, flipsOf}
 use Rattle.codes.specs.Promises.{Demand3}
 use Rattle.grid_code.specs.Code.{codeword, gridCode}
 use Rattle.grid.specs.Answer.{means, numberOf}
@@ -25,9 +25,10 @@ pub record DecodePromises : Type 0 where
   -- Demand 3: data is handed out exactly where some codeword is within 7 places; it is that codeword's, every other is further off, and the
   -- flips are the places that differ.
   pub demand3 : (rows : List ℕ) (r : Answer) → Decoded rows r → Demand3 gridCode (joined 8 rows) (means (r .verdict))
-  -- The number is 0 or 1: tie never happens.
+  -- No grid has two nearest codewords within 7 places, so there is no tie among the answers: ..
+  pub no-tie : (rows : List ℕ) → Tie gridCode (joined 8 rows) → ⊥
+  -- .. the number is 0, or 1 for lost.
   pub numbers : (rows : List ℕ) (r : Answer) → Decoded rows r → (numberOf (r .verdict) ≡ 0) ⊎ (numberOf (r .verdict) ≡ 1)
-  pub no-tie : (rows : List ℕ) (r : Answer) → Decoded rows r → means (r .verdict) ≢ tie
   -- The flips are the places in which the repaired grid differs from the grid as read, checks included.
   pub changed : (rows : List ℕ) (r : Answer) → length rows ≡ 8 → Below 8 rows → Decoded rows r
       → flipsOf (means (r .verdict)) ≡ dist (joined 8 rows) (joined 8 (r .grid .rows))

@@ -32,7 +32,6 @@ pub enum Verdict {
     Clean(u16),
     Mended { data: u16, flips: u32 },
     Lost,
-    Tie,
 }
 
 // A verdict, with the codeword beside it, or the grid as read where there is no data.

@@ -3,7 +3,7 @@ use mathlib.Core.Path.{_≡_}
 use mathlib.Core.List.{List, map}
 use Prim.Native.Nat.{ℕ, _+_, _*_}
 use lib.ListN.{length}
-use Rattle.codes.specs.Verdict.{Verdict, clean, mended, lost, tie, verdict, scrubbed}
+use Rattle.codes.specs.Verdict.{Verdict, clean, mended, lost, verdict, scrubbed}
 use Rattle.grid_code.specs.Code.{gridCode}
 
 -- a verdict as one number: the data, the flips from bit 16 on, document 01's number from bit 24 on
@@ -11,7 +11,6 @@ abbrev pub packed : Verdict → ℕ
 packed (clean d) = d
 packed (mended d n) = d + n * 65536
 packed lost = 16777216
-packed tie = 83886080
 
 -- three slices of one length
 abbrev pub Alike : List ℕ → List ℕ → List ℕ → Type 0

@@ -29,7 +29,6 @@ pub extern "C" fn block_scrub(words: &mut [u16]) -> u32
         Outcome::Clean => 0,
         Outcome::Mended { flips } => flips,
         Outcome::Lost => 0x200,
-        Outcome::Tie => 0x500,
         Outcome::Length => 0x300,
     }
 }

@@ -64,7 +64,6 @@ fn packed(verdict: Verdict) -> u64
         Verdict::Clean(data) => data as u64,
         Verdict::Mended { data, flips } => (data as u64) + (flips as u64) * 65536,
         Verdict::Lost => 0x0100_0000,
-        Verdict::Tie => 0x0500_0000,
     }
 }
 

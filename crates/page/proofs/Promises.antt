@@ -108,7 +108,6 @@ promised = record {
   mended-replaced = λ w d n e. ap (repaired gridCode w) e;
   clean-kept = clean-kept;
   lost-kept = λ w e. ap (repaired gridCode w) e;
-  tied-kept = λ w e. ap (repaired gridCode w) e;
   sum = sum;
   again = again;
   empty = empty;

@@ -22,7 +22,7 @@ tallyOf page = record {
   flips = sumBy gridCode flipsOf page;
 }
 
--- `page::scrub`: 0 to 512 grids are accepted. Each mended grid is replaced by its codeword, and clean, lost and tied ones stay as they are. A
+-- `page::scrub`: 0 to 512 grids are accepted. Each mended grid is replaced by its codeword, and clean and lost ones stay as they are. A
 -- longer page is refused, and nothing is written.
 pub record Scrubbed (before : List ℕ) (r : Outcome) (exit : List ℕ) : Type 0 where
   pub answer : r ≡ choose (leb (length before) 512) (Done (tallyOf before)) Length

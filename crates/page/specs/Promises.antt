@@ -3,7 +3,7 @@ use mathlib.Core.Path.{_≡_}
 use mathlib.Core.List.{List, []}
 use Prim.Native.Nat.{ℕ, _+_, _≤_, _<_}
 use lib.ListN.{length, getD}
-use Rattle.codes.specs.Verdict.{clean, mended, lost, tie, verdict, scrubbed}
+use Rattle.codes.specs.Verdict.{clean, mended, lost, verdict, scrubbed}
 use Rattle.grid_code.specs.Code.{codeword, gridCode}
 use Rattle.page.specs.declared.Tally.{Tally}
 use Rattle.page.specs.declared.Outcome.{Outcome}
@@ -24,14 +24,13 @@ pub record PagePromises : Type 0 where
   -- Page of 512: accepted; 513: refusal 3, and nothing is written.
   pub accepted : (page exit : List ℕ) (r : Outcome) → length page ≤ 512 → Scrubbed page r exit → numberOf r ≡ 0
   pub refused : (page exit : List ℕ) (r : Outcome) → 512 < length page → Scrubbed page r exit → (numberOf r ≡ 3) × (exit ≡ page)
-  -- What stands at each place afterwards: the codeword of a mended grid; a clean, lost or tied one as it was.
+  -- What stands at each place afterwards: the codeword of a mended grid; a clean or lost one as it was.
   pub length-kept : (page exit : List ℕ) (r : Outcome) → Scrubbed page r exit → length exit ≡ length page
   pub each : (page exit : List ℕ) (r : Outcome) → length page ≤ 512 → Scrubbed page r exit → (i : ℕ) → i < length page
       → getD exit i 0 ≡ scrubbed gridCode (getD page i 0)
   pub mended-replaced : (w d n : ℕ) → verdict gridCode w ≡ mended d n → scrubbed gridCode w ≡ codeword d
   pub clean-kept : (w d : ℕ) → verdict gridCode w ≡ clean d → scrubbed gridCode w ≡ w
   pub lost-kept : (w : ℕ) → verdict gridCode w ≡ lost → scrubbed gridCode w ≡ w
-  pub tied-kept : (w : ℕ) → verdict gridCode w ≡ tie → scrubbed gridCode w ≡ w
   -- Grids = clean + mended + lost.
   pub sum : (page exit : List ℕ) (t : Tally) → Scrubbed page (Done t) exit → t .grids ≡ t .clean + t .mended + t .lost
   -- A second scrub finds clean + mended clean, the same lost, 0 mended, 0 flips, and changes nothing.

@@ -1,5 +1,5 @@
-// A page of up to 512 grids, each a 64-bit number, scrubbed where it stands: mended grids are replaced by their codewords, and clean, lost
-// and tied ones stay as they are.
+// A page of up to 512 grids, each a 64-bit number, scrubbed where it stands: mended grids are replaced by their codewords, and clean and
+// lost ones stay as they are.
 //
 // specs/Calls.antt says what a scrub answers and leaves, specs/Promises.antt what is proved of it.
 ghost use mathlib.Core.Path.{_≡_};
@@ -11,7 +11,7 @@ ghost use Rattle.page.specs.Steps.{none, counted, Roomy};
 use grid::Grid;
 use grid::Verdict;
 
-// The five numbers of a scrub. Ties count as lost, and flips is the sum over mended grids.
+// The five numbers of a scrub. Flips is the sum over mended grids.
 pub struct Tally {
     pub grids: u32,
     pub clean: u32,
@@ -64,9 +64,6 @@ impl Tally {
                 next.flips = next.flips + flips;
             }
             Verdict::Lost => {
-                next.lost = next.lost + 1;
-            }
-            Verdict::Tie => {
                 next.lost = next.lost + 1;
             }
         }

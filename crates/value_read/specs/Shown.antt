@@ -1,22 +1,20 @@
 -- What reading back gives for a grid, in document 01's terms. Assumes nothing.
 use mathlib.Core.List.{List, map}
 use Prim.Native.Nat.{ℕ}
-use Rattle.codes.specs.Verdict.{Verdict, clean, mended, lost, tie, verdict}
+use Rattle.codes.specs.Verdict.{Verdict, clean, mended, lost, verdict}
 use Rattle.grid_code.specs.Code.{gridCode}
 
--- The data of a verdict, 0 if lost (a tie counts as lost), ..
+-- The data of a verdict, 0 if lost, ..
 abbrev pub dataShown : Verdict → ℕ
 dataShown (clean d) = d
 dataShown (mended d n) = d
 dataShown lost = 0
-dataShown tie = 0
 
 -- .. and its flips, 0 if clean and 255 if lost.
 abbrev pub flipsShown : Verdict → ℕ
 flipsShown (clean d) = 0
 flipsShown (mended d n) = n
 flipsShown lost = 255
-flipsShown tie = 255
 
 -- of a grid, ..
 abbrev pub dataOfGrid : ℕ → ℕ

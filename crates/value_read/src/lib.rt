@@ -31,7 +31,7 @@ fn show(grid: Grid) -> Shown
             number: data,
             flips: flips as u8,
         },
-        _ => Shown {
+        Verdict::Lost => Shown {
             number: 0,
             flips: 255,
         },

@@ -17,7 +17,7 @@ use Rattle.words.specs.Bytes.{wordsIn, bytesOf}
 use Rattle.words.proofs.Fields.{length-fields, fields-joined}
 use Rattle.words.proofs.Lists.{part-behind}
 use Rattle.words.proofs.Bytes.{length-words, words-two, bytes-append, bytes-words, words-below}
-use Rattle.codes.specs.Verdict.{Verdict, clean, mended, lost, tie, verdict, scrubbed, flipsOf}
+use Rattle.codes.specs.Verdict.{Verdict, clean, mended, lost, verdict, scrubbed, flipsOf}
 use Rattle.codes.specs.Tally.{isClean, isMended, isLost, sumBy}
 use Rattle.codes.proofs.Tally.{unmended, sum-append}
 use Rattle.grid_code.specs.Code.{gridCode}
@@ -31,7 +31,7 @@ use Rattle.block_code.proofs.Promises as blocks
 use Rattle.block.specs.Answer.{answerOf}
 use Rattle.block.specs.Calls as block
 use Rattle.block.specs.declared.Outcome.{Outcome}
-use Rattle.block.specs.declared.Outcome.the-variants.{Clean, Mended, Lost, Tie, Length}
+use Rattle.block.specs.declared.Outcome.the-variants.{Clean, Mended, Lost, Length}
 use Rattle.block.proofs.Outcome.{the-type}
 use Rattle.value_scrub.specs.declared.Blocks.{Blocks}
 use Rattle.value_scrub.specs.Tally.{blockTally}
@@ -151,16 +151,14 @@ abbrev pub ofAnswer : Outcome → Blocks
 ofAnswer Clean = record { blocks = 1; clean = 1; mended = 0; lost = 0; flips = 0 }
 ofAnswer (Mended n) = record { blocks = 1; clean = 0; mended = 1; lost = 0; flips = n }
 ofAnswer Lost = record { blocks = 1; clean = 0; mended = 0; lost = 1; flips = 0 }
-ofAnswer Tie = record { blocks = 1; clean = 0; mended = 0; lost = 1; flips = 0 }
 ofAnswer Length = record { blocks = 1; clean = 0; mended = 0; lost = 1; flips = 0 }
 
 -- as the last arm of a match has it
-pub not-mended : (r : Outcome) → OneOf (2 ∷ 3 ∷ 4 ∷ []) (tagOf the-type r)
+pub not-mended : (r : Outcome) → OneOf (2 ∷ 3 ∷ []) (tagOf the-type r)
     → ofAnswer r ≡ record { blocks = 1; clean = 0; mended = 0; lost = 1; flips = 0 }
-not-mended Clean k = absurd (⊎-elim (λ e. omega (arith, e)) (⊎-elim (λ e. omega (arith, e)) (λ e. omega (arith, e))) k)
-not-mended (Mended n) k = absurd (⊎-elim (λ e. omega (arith, e)) (⊎-elim (λ e. omega (arith, e)) (λ e. omega (arith, e))) k)
+not-mended Clean k = absurd (⊎-elim (λ e. omega (arith, e)) (λ e. omega (arith, e)) k)
+not-mended (Mended n) k = absurd (⊎-elim (λ e. omega (arith, e)) (λ e. omega (arith, e)) k)
 not-mended Lost k = refl
-not-mended Tie k = refl
 not-mended Length k = refl
 
 one-block : (w : ℕ) → blockTally (w ∷ []) ≡ ofVerdict (verdict blockCode w)
@@ -177,7 +175,6 @@ answered : (v : Verdict) → ofAnswer (answerOf v) ≡ ofVerdict v
 answered (clean d) = refl
 answered (mended d n) = refl
 answered lost = refl
-answered tie = refl
 
 module _ (value words after : List ℕ) (r : Outcome) (fits : length value ≡ 76) (bytes : Below 8 value) (taken : words ≡ wordsIn 2 38 value)
     (done : block.Scrubbed words r after) where

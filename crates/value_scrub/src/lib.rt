@@ -11,7 +11,7 @@ ghost use Rattle.value_scrub.specs.Steps.{ScrubbedGrids, ScrubbedBlock, 
 use block::Block;
 use page::Tally;
 
-// The five numbers of a scrub, of blocks. Ties count as lost, and flips is the sum over mended blocks.
+// The five numbers of a scrub, of blocks. Flips is the sum over mended blocks.
 pub struct Blocks {
     pub blocks: u32,
     pub clean: u32,

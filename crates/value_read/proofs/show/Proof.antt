@@ -1,10 +1,6 @@
 -- `value_read::show` meets its contract: in each case of the verdict. Assumes nothing.
 use mathlib.Core.Path.{_≡_, refl, sym, ap, _∙_}
-use mathlib.Core.Logic.{⊎-elim}
-use mathlib.Core.List.{[], _∷_}
 use native.Mathlib.Omega.{arith}
-use types.Run.{OneOf}
-use denote.Enum.Declared.{tagOf}
 use borrow.Author.Needs.{needs}
 use Rattle.words.specs.Fields.{joined}
 use Rattle.codes.specs.Verdict.{flipsOf}
@@ -12,18 +8,9 @@ use Rattle.codes.proofs.Tally.{few-flips}
 use Rattle.grid_code.specs.Code.{gridCode}
 use Rattle.grid_code.proofs.Promises.{promised}
 use Rattle.grid.specs.Answer.{means}
-use Rattle.grid.specs.declared.Verdict.{Verdict}
-use Rattle.grid.specs.declared.Verdict.the-variants.{Clean, Mended, Lost, Tie}
-use Rattle.grid.proofs.Verdict.{the-type}
 use Rattle.value_read.specs.Shown.{dataShown, flipsShown}
 use Rattle.value_read.proofs.show.Statement.{statement}
 use Rattle.value_read.proofs.show.Tie as tie
-
-unread : (v : Verdict) → OneOf (2 ∷ 3 ∷ []) (tagOf the-type v) → (dataShown (means v) ≡ 0) × (flipsShown (means v) ≡ 255)
-unread (Clean d) k = absurd (⊎-elim (λ e. omega (arith, e)) (λ e. omega (arith, e)) k)
-unread (Mended d n) k = absurd (⊎-elim (λ e. omega (arith, e)) (λ e. omega (arith, e)) k)
-unread Lost k = (refl, refl)
-unread Tie k = (refl, refl)
 
 cast-t8 : tie.Need-cast-t8
 cast-t8 c =
@@ -45,11 +32,11 @@ returns-2 c =
 
 returns-3 : tie.Need-returns-3
 returns-3 c =
-    let none = unread (c .before .decode .result .verdict) (c .match .keys3) in
-    let is = c .before .decode .ensures .answer in
-    (sym (none .0) ∙ ap dataShown is, sym (none .1) ∙ ap flipsShown is)
+    let e = c .enum-told .given .1 in
+    let is = c .before .before .decode .ensures .answer in
+    (sym (ap (λ v. dataShown (means v)) e) ∙ ap dataShown is, sym (ap (λ v. flipsShown (means v)) e) ∙ ap flipsShown is)
 
 pub show-spec : {M : Type 1} → statement M
 show-spec =
     tie.close
-    (tie.spec (λ c κs. search needs) (λ c. search needs) (λ c. search needs) cast-t8 returns returns-2 returns-3)
+    (tie.spec (λ c κs. search needs) (λ c. search needs) (λ c. search needs) cast-t8 (λ c. search needs) returns returns-2 returns-3)

@@ -31,14 +31,8 @@ returns-4 c =
     let scrub = c .before .before .before .before .scrub in
     (scrub .result, scrub .ensures, sym (ap number (c .enum-told3 .given .1)))
 
-returns-5 : tie.Need-returns-5
-returns-5 c =
-    let scrub = c .before .before .before .before .scrub in
-    (scrub .result, scrub .ensures, sym (ap number (c .enum-told4 .given .1)))
-
 pub block-scrub-spec : {M : Type 1} → statement M
 block-scrub-spec =
     tie.close
     (tie.spec (λ c κs. search needs) (λ c. search needs) (λ c. search needs) (λ c. search needs) (λ c. search needs) (λ c. search needs)
-    (λ c. search needs) returns (λ c. search needs) returns-2 (λ c. search needs) returns-3 (λ c. search needs) returns-4
-    (λ c. search needs) returns-5)
+    returns (λ c. search needs) returns-2 (λ c. search needs) returns-3 (λ c. search needs) returns-4)

@@ -21,9 +21,6 @@ add-next-4 c = omega (arith, ap (λ v. flipsOf (means v)) (c .before .before .be
 add-next-5 : tie.Need-add-next-5
 add-next-5 c = omega (arith, ap (λ v. isLost (means v)) (c .before .enum-told2 .given .1))
 
-add-next-6 : tie.Need-add-next-6
-add-next-6 c = omega (arith, ap (λ v. isLost (means v)) (c .before .enum-told3 .given .1))
-
 returns : tie.Need-returns
 returns c = simp (c .before .enum-told .given .1, add-zero)
 
@@ -33,11 +30,8 @@ returns-2 c = simp (c .before .before .before .verdict .given .1, add-zero)
 returns-3 : tie.Need-returns-3
 returns-3 c = simp (c .before .enum-told2 .given .1, add-zero)
 
-returns-4 : tie.Need-returns-4
-returns-4 c = simp (c .before .enum-told3 .given .1, add-zero)
-
 pub counted-spec : {M : Type 1} → statement M
 counted-spec =
     tie.close
     (tie.spec (λ c. search needs) (λ c. search needs) add-next-2 (λ c. search needs) add-next-3 add-next-4 (λ c. search needs) add-next-5
-    (λ c. search needs) add-next-6 returns returns-2 returns-3 returns-4)
+    returns returns-2 returns-3)
