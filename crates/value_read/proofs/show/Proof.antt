@@ -1,16 +1,22 @@
 -- `value_read::show` meets its contract: in each case of the verdict. Assumes nothing.
-use mathlib.Core.Path.{_≡_, refl, sym, ap, _∙_}
+use mathlib.Core.Path.{_≡_, sym, ap, _∙_}
+use Prim.Native.Nat.{ℕ}
 use native.Mathlib.Omega.{arith}
 use borrow.Author.Needs.{needs}
 use Rattle.words.specs.Fields.{joined}
-use Rattle.codes.specs.Verdict.{flipsOf}
+use Rattle.codes.specs.Verdict.{flipsOf, verdict}
 use Rattle.codes.proofs.Tally.{few-flips}
 use Rattle.grid_code.specs.Code.{gridCode}
 use Rattle.grid_code.proofs.Promises.{promised}
 use Rattle.grid.specs.Answer.{means}
-use Rattle.value_read.specs.Shown.{dataShown, flipsShown}
+use Rattle.grid.specs.declared.Verdict.{Verdict}
+use Rattle.value_read.specs.Shown.{dataShown, flipsShown, dataOfGrid, flipsOfGrid}
 use Rattle.value_read.proofs.show.Statement.{statement}
 use Rattle.value_read.proofs.show.Tie as tie
+
+-- what is shown in a case of the enum, where the verdict is of that case
+shown : (w : ℕ) (v u : Verdict) → v ≡ u → means v ≡ verdict gridCode w → (dataShown (means u) ≡ dataOfGrid w) × (flipsShown (means u) ≡ flipsOfGrid w)
+shown w v u e is = (ap (λ v. dataShown (means v)) (sym e) ∙ ap dataShown is, ap (λ v. flipsShown (means v)) (sym e) ∙ ap flipsShown is)
 
 cast-t8 : tie.Need-cast-t8
 cast-t8 c =
@@ -19,22 +25,13 @@ cast-t8 c =
     omega (arith, few, is, ap (λ v. flipsOf (means v)) (c .before .verdict2 .given .1))
 
 returns : tie.Need-returns
-returns c =
-    let e = c .before .verdict .given .1 in
-    let is = c .before .before .before .decode .ensures .answer in
-    (sym (ap (λ v. dataShown (means v)) e) ∙ ap dataShown is, sym (ap (λ v. flipsShown (means v)) e) ∙ ap flipsShown is)
+returns c = shown _ _ _ (c .before .verdict .given .1) (c .before .before .before .decode .ensures .answer)
 
 returns-2 : tie.Need-returns-2
-returns-2 c =
-    let e = c .before .verdict2 .given .1 in
-    let is = c .before .before .before .decode .ensures .answer in
-    (sym (ap (λ v. dataShown (means v)) e) ∙ ap dataShown is, sym (ap (λ v. flipsShown (means v)) e) ∙ ap flipsShown is)
+returns-2 c = shown _ _ _ (c .before .verdict2 .given .1) (c .before .before .before .decode .ensures .answer)
 
 returns-3 : tie.Need-returns-3
-returns-3 c =
-    let e = c .enum-told .given .1 in
-    let is = c .before .before .decode .ensures .answer in
-    (sym (ap (λ v. dataShown (means v)) e) ∙ ap dataShown is, sym (ap (λ v. flipsShown (means v)) e) ∙ ap flipsShown is)
+returns-3 c = shown _ _ _ (c .enum-told .given .1) (c .before .before .decode .ensures .answer)
 
 pub show-spec : {M : Type 1} → statement M
 show-spec =
