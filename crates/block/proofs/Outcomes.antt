@@ -14,9 +14,9 @@ use lib.ListN.{length}
 use lib.Pow.{pow-pos, pow-lt}
 use borrow.Author.Tests.{eq-eqb, ne-eqb}
 use Rattle.words.specs.Word.{choose, dist}
-use Rattle.words.specs.Fields.{fields, joined, Below}
+use Rattle.words.specs.Digits.{digits, joined, Below}
 use Rattle.words.proofs.Dist.{dist-self, dist-sym, dist-flips, dist-ones}
-use Rattle.words.proofs.Fields.{fields-joined, joined-fields, joined-lt}
+use Rattle.words.proofs.Digits.{digits-joined, joined-digits, joined-lt}
 use Rattle.words.proofs.Ones.{ones-pow, ones-two, AtMostTwo, at-most-two}
 use Rattle.words.proofs.Xor.{xor-assoc}
 use Rattle.codes.specs.Verdict.{Verdict, clean, mended, lost, answered, off, verdict, repaired, scrubbed}
@@ -50,8 +50,8 @@ IsBlock ws = (length ws ≡ 38) × Below 16 ws
 pub block-lt : (ws : List ℕ) → IsBlock ws → joined 16 ws < 2 ^ 608
 block-lt ws (n, h) = joined-lt 16 38 ws n h
 
-pub back : (ws : List ℕ) → IsBlock ws → fields 16 38 (joined 16 ws) ≡ ws
-back ws (n, h) = fields-joined 16 38 ws n h
+pub back : (ws : List ℕ) → IsBlock ws → digits 16 38 (joined 16 ws) ≡ ws
+back ws (n, h) = digits-joined 16 38 ws n h
 
 module _ (ws : List ℕ) (b : IsBlock ws) where
   abbrev w : ℕ
@@ -61,21 +61,21 @@ module _ (ws : List ℕ) (b : IsBlock ws) where
   right-length = eq-eqb (length ws) 38 (b .0)
 
   -- the statement, from a verdict
-  scrubs : (v : Verdict) (exit : List ℕ) → verdict blockCode w ≡ v → exit ≡ fields 16 38 (repaired blockCode w v)
+  scrubs : (v : Verdict) (exit : List ℕ) → verdict blockCode w ≡ v → exit ≡ digits 16 38 (repaired blockCode w v)
       → Scrubbed ws (answerOf v) exit
   scrubs v exit e x = record {
     answer = sym (ap (λ (t : Bool). choose t (answerOf (verdict blockCode w)) Length) right-length ∙ ap answerOf e);
     after =
         x
-        ∙ sym (ap {B = List ℕ} (λ (t : Bool). choose t (fields 16 38 (scrubbed blockCode w)) ws) right-length
-        ∙ ap (λ v. fields 16 38 (repaired blockCode w v)) e);
+        ∙ sym (ap {B = List ℕ} (λ (t : Bool). choose t (digits 16 38 (scrubbed blockCode w)) ws) right-length
+        ∙ ap (λ v. digits 16 38 (repaired blockCode w v)) e);
   }
 
   pub is-clean : syndromeOf w ≡ noChecks → Scrubbed ws Clean ws
   is-clean s =
       let hw : w < 2 ^ 608 = block-lt ws b in
       scrubs (clean (w % 2 ^ 512)) ws (near w w 0 hw s (dist-self w) (omega arith))
-      (sym (back ws b) ∙ ap (fields 16 38) (codeword-of w hw s))
+      (sym (back ws b) ∙ ap (digits 16 38) (codeword-of w hw s))
 
   -- what is left after flips f, as many as f has ones
   mends : (f n : ℕ) (exit : List ℕ) → f < 2 ^ 608 → syndromeOf f ≡ syndromeOf w → ones f ≡ suc n → suc n ≤ 2 → IsBlock exit
@@ -86,7 +86,7 @@ module _ (ws : List ℕ) (b : IsBlock ws) where
       let hv : v < 2 ^ 608 = xor-lt 608 w f hw hf in
       let z : syndromeOf v ≡ noChecks = syndrome-sum w f ∙ ap (mixed (syndromeOf w)) s ∙ mixed-self (syndromeOf w) in
       scrubs (mended (v % 2 ^ 512) (suc n)) exit (near w v (suc n) hv z (dist-sym w v ∙ dist-flips w f ∙ o) l)
-      (sym (back exit x) ∙ ap (fields 16 38) (e ∙ codeword-of v hv z))
+      (sym (back exit x) ∙ ap (digits 16 38) (e ∙ codeword-of v hv z))
 
   pub mends-one : (p : ℕ) (exit : List ℕ) → p < 608 → ofPlace p ≡ syndromeOf w → IsBlock exit → joined 16 exit ≡ bitXor w (2 ^ p)
       → Scrubbed ws (Mended 1) exit
@@ -139,21 +139,21 @@ not-allowed values before (inr ne) = ap (λ (t : Bool). eqb (length values) 32 &
 
 -- the answer and the words, by the test
 encodes : (values before exit : List ℕ) (t : Bool) → allowed values before ≡ t
-    → exit ≡ choose t (fields 16 38 (codeword (joined 16 values))) before
+    → exit ≡ choose t (digits 16 38 (codeword (joined 16 values))) before
     → (choose t Done OtherLength ≡ Done → Codeword (joined 16 values) (joined 16 exit)) → Encoded values before (choose t Done OtherLength) exit
 encodes values before exit t e x k = record {
   answer = sym (ap (λ (t : Bool). choose t Done OtherLength) e);
-  after = x ∙ sym (ap {B = List ℕ} (λ (t : Bool). choose t (fields 16 38 (codeword (joined 16 values))) before) e);
+  after = x ∙ sym (ap {B = List ℕ} (λ (t : Bool). choose t (digits 16 38 (codeword (joined 16 values))) before) e);
   meets = k;
 }
 
 pub encoded : (values before exit : List ℕ) → length values ≡ 32 → length before ≡ 38 → Below 16 values
-    → exit ≡ fields 16 38 (codeword (joined 16 values)) → Encoded values before Done exit
+    → exit ≡ digits 16 38 (codeword (joined 16 values)) → Encoded values before Done exit
 encoded values before exit n m h x =
     let d : ℕ = joined 16 values in
     let l : d < 2 ^ 512 = joined-lt 16 32 values n h in
     encodes values before exit true (is-allowed values before n m) x
-    (λ done. subst (Codeword d) (sym (ap (joined 16) x ∙ joined-fields 16 38 (codeword d) (codeword-lt d l))) (meets d l))
+    (λ done. subst (Codeword d) (sym (ap (joined 16) x ∙ joined-digits 16 38 (codeword d) (codeword-lt d l))) (meets d l))
 
 -- ---- other lengths
 
@@ -164,5 +164,5 @@ not-encoded values before other =
 pub other-length : (ws : List ℕ) → length ws ≢ 38 → Scrubbed ws Length ws
 other-length ws ne = record {
   answer = sym (ap (λ (t : Bool). choose t (answerOf (verdict blockCode (joined 16 ws))) Length) (ne-eqb (length ws) 38 ne));
-  after = sym (ap {B = List ℕ} (λ (t : Bool). choose t (fields 16 38 (scrubbed blockCode (joined 16 ws))) ws) (ne-eqb (length ws) 38 ne));
+  after = sym (ap {B = List ℕ} (λ (t : Bool). choose t (digits 16 38 (scrubbed blockCode (joined 16 ws))) ws) (ne-eqb (length ws) 38 ne));
 }

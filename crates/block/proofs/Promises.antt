@@ -12,9 +12,9 @@ use lib.Dec.{eqb, lit<}
 use lib.ListN.{length, take}
 use borrow.Author.Tests.{eq-eqb, ne-eqb}
 use Rattle.words.specs.Word.{choose, dist}
-use Rattle.words.specs.Fields.{fields, joined, Below}
+use Rattle.words.specs.Digits.{digits, joined, Below}
 use Rattle.words.proofs.Dist.{dist-self}
-use Rattle.words.proofs.Fields.{length-fields, take-fields, joined-fields, joined-lt, fields-joined}
+use Rattle.words.proofs.Digits.{length-digits, take-digits, joined-digits, joined-lt, digits-joined}
 use Rattle.codes.specs.Verdict as codes
 use Rattle.codes.specs.Verdict.{clean, mended, lost, answered, refusal, flipsOf, verdict, repaired, scrubbed}
 use Rattle.codes.proofs.Promises.{found, none-near, answered-repaired}
@@ -36,24 +36,24 @@ use Rattle.block.proofs.Outcomes.{block-lt, back, is-allowed, not-allow
 -- ---- the encoder
 
 -- the words of a codeword: the data in front
-front : (d : ℕ) → d < 2 ^ 512 → take 32 (fields 16 38 (codeword d)) ≡ fields 16 32 d
+front : (d : ℕ) → d < 2 ^ 512 → take 32 (digits 16 38 (codeword d)) ≡ digits 16 32 d
 front d h =
-    take-fields 16 32 38 (codeword d) (omega arith) ∙ data-words d h
+    take-digits 16 32 38 (codeword d) (omega arith) ∙ data-words d h
 
-whole : (d : ℕ) → d < 2 ^ 512 → joined 16 (fields 16 38 (codeword d)) ≡ codeword d
-whole d h = joined-fields 16 38 (codeword d) (codeword-lt d h)
+whole : (d : ℕ) → d < 2 ^ 512 → joined 16 (digits 16 38 (codeword d)) ≡ codeword d
+whole d h = joined-digits 16 38 (codeword d) (codeword-lt d h)
 
 module _ (values before exit : List ℕ) (r : Written) (h : Encoded values before r exit) where
   -- a block was written, or not
   abbrev Written-or : Type 0
   Written-or =
-      ((length values ≡ 32) × (r ≡ Done) × (exit ≡ fields 16 38 (codeword (joined 16 values)))) ⊎ ((r ≡ OtherLength) × (exit ≡ before))
+      ((length values ≡ 32) × (r ≡ Done) × (exit ≡ digits 16 38 (codeword (joined 16 values)))) ⊎ ((r ≡ OtherLength) × (exit ≡ before))
 
   by-test : (t : Bool) → allowed values before ≡ t
-      → (r ≡ choose t Done OtherLength) × (exit ≡ choose t (fields 16 38 (codeword (joined 16 values))) before)
+      → (r ≡ choose t Done OtherLength) × (exit ≡ choose t (digits 16 38 (codeword (joined 16 values))) before)
   by-test t e = (
     h .answer ∙ ap (λ (t : Bool). choose t Done OtherLength) e,
-    h .after ∙ ap {B = List ℕ} (λ (t : Bool). choose t (fields 16 38 (codeword (joined 16 values))) before) e,
+    h .after ∙ ap {B = List ℕ} (λ (t : Bool). choose t (digits 16 38 (codeword (joined 16 values))) before) e,
   )
 
   not-written : (length values ≢ 32) ⊎ (length before ≢ 38) → (r ≡ OtherLength) × (exit ≡ before)
@@ -67,10 +67,10 @@ module _ (values before exit : List ℕ) (r : Written) (h : Encoded values befor
       go (yes n) (no m) = inr (not-written (inr m))
       go (no n) m = inr (not-written (inl n))
 
-  done : encodeNumberOf r ≡ 0 → (length values ≡ 32) × (r ≡ Done) × (exit ≡ fields 16 38 (codeword (joined 16 values)))
+  done : encodeNumberOf r ≡ 0 → (length values ≡ 32) × (r ≡ Done) × (exit ≡ digits 16 38 (codeword (joined 16 values)))
   done z = go written-or
     where
-      go : Written-or → (length values ≡ 32) × (r ≡ Done) × (exit ≡ fields 16 38 (codeword (joined 16 values)))
+      go : Written-or → (length values ≡ 32) × (r ≡ Done) × (exit ≡ digits 16 38 (codeword (joined 16 values)))
       go (inl x) = x
       go (inr (e, x)) = absurd (omega (arith, z, ap encodeNumberOf e))
 
@@ -82,7 +82,7 @@ encode-promised = record {
   data-kept = λ values before exit r small h z.
       let (n, e, x) = done values before exit r h z in
       ap (take 32) x ∙ front (joined 16 values) (joined-lt 16 32 values n small)
-      ∙ fields-joined 16 32 values n small;
+      ∙ digits-joined 16 32 values n small;
 }
 
 -- ---- the scrub
@@ -101,17 +101,17 @@ flips-in lost = refl
 -- a block was judged, or its length is another
 abbrev Judged : List ℕ → List ℕ → Outcome → Type 0
 Judged ws exit r =
-    ((length ws ≡ 38) × (r ≡ answerOf (verdict blockCode (joined 16 ws))) × (exit ≡ fields 16 38 (scrubbed blockCode (joined 16 ws))))
+    ((length ws ≡ 38) × (r ≡ answerOf (verdict blockCode (joined 16 ws))) × (exit ≡ digits 16 38 (scrubbed blockCode (joined 16 ws))))
     ⊎ ((length ws ≢ 38) × (r ≡ Length) × (exit ≡ ws))
 
 judged : (ws exit : List ℕ) (r : Outcome) → Scrubbed ws r exit → Judged ws exit r
 judged ws exit r h = go (ℕ-discrete (length ws) 38)
   where
     by : (t : Bool) → eqb (length ws) 38 ≡ t
-        → (r ≡ choose t (answerOf (verdict blockCode (joined 16 ws))) Length) × (exit ≡ choose t (fields 16 38 (scrubbed blockCode (joined 16 ws))) ws)
+        → (r ≡ choose t (answerOf (verdict blockCode (joined 16 ws))) Length) × (exit ≡ choose t (digits 16 38 (scrubbed blockCode (joined 16 ws))) ws)
     by t e = (
       h .answer ∙ ap (λ (t : Bool). choose t (answerOf (verdict blockCode (joined 16 ws))) Length) e,
-      h .after ∙ ap {B = List ℕ} (λ (t : Bool). choose t (fields 16 38 (scrubbed blockCode (joined 16 ws))) ws) e,
+      h .after ∙ ap {B = List ℕ} (λ (t : Bool). choose t (digits 16 38 (scrubbed blockCode (joined 16 ws))) ws) e,
     )
 
     go : Dec (length ws ≡ 38) → Judged ws exit r
@@ -120,19 +120,19 @@ judged ws exit r h = go (ℕ-discrete (length ws) 38)
 
 -- .. on a word that is known with its verdict
 of-word : (ws exit : List ℕ) (r : Outcome) (w : ℕ) (v : codes.Verdict) → length ws ≡ 38 → joined 16 ws ≡ w → verdict blockCode w ≡ v
-    → Judged ws exit r → (r ≡ answerOf v) × (exit ≡ fields 16 38 (repaired blockCode w v))
+    → Judged ws exit r → (r ≡ answerOf v) × (exit ≡ digits 16 38 (repaired blockCode w v))
 of-word ws exit r w v n e p (inl (m, a, x)) = (
   a ∙ ap answerOf (ap (verdict blockCode) e ∙ p),
-  x ∙ ap (λ (w : ℕ). fields 16 38 (scrubbed blockCode w)) e ∙ ap (λ v. fields 16 38 (repaired blockCode w v)) p,
+  x ∙ ap (λ (w : ℕ). digits 16 38 (scrubbed blockCode w)) e ∙ ap (λ v. digits 16 38 (repaired blockCode w v)) p,
 )
 of-word ws exit r w v n e p (inr (m, a, x)) = absurd (m n)
 
 -- the words that were scrubbed, as a number
-scrubbed-number : (ws exit : List ℕ) → length ws ≡ 38 → Below 16 ws → exit ≡ fields 16 38 (scrubbed blockCode (joined 16 ws))
+scrubbed-number : (ws exit : List ℕ) → length ws ≡ 38 → Below 16 ws → exit ≡ digits 16 38 (scrubbed blockCode (joined 16 ws))
     → joined 16 exit ≡ scrubbed blockCode (joined 16 ws)
 scrubbed-number ws exit n small x =
     ap (joined 16) x
-    ∙ joined-fields 16 38 (scrubbed blockCode (joined 16 ws))
+    ∙ joined-digits 16 38 (scrubbed blockCode (joined 16 ws))
     (scrubbed-lt blockCode (promised .verdicts) (2 ^ 608) codeword-lt (joined 16 ws) (block-lt ws (n, small)))
 
 numbers : (ws exit : List ℕ) (r : Outcome) → length ws ≡ 38 → Judged ws exit r → (numberOf r ≡ 0) ⊎ (numberOf r ≡ 2)
@@ -147,22 +147,22 @@ numbers ws exit r m (inl (n, a, x)) = go (one-refusal 2 v)
 numbers ws exit r m (inr (n, a, x)) = absurd (n m)
 
 -- where nothing is refused
-some-codeword : (ws exit : List ℕ) (r : Outcome) → Judged ws exit r → numberOf r ≡ 0 → (d : ℕ) × (d < 2 ^ 512) × (exit ≡ fields 16 38 (codeword d))
+some-codeword : (ws exit : List ℕ) (r : Outcome) → Judged ws exit r → numberOf r ≡ 0 → (d : ℕ) × (d < 2 ^ 512) × (exit ≡ digits 16 38 (codeword d))
 some-codeword ws exit r (inl (n, a, x)) z =
     let v : codes.Verdict = verdict blockCode (joined 16 ws) in
     let (d, l, e) = codeword-now blockCode (promised .verdicts) 1 (joined 16 ws) (sym (number-of v) ∙ ap numberOf (sym a) ∙ z) in
-    (d, l, x ∙ ap (fields 16 38) e)
+    (d, l, x ∙ ap (digits 16 38) e)
 some-codeword ws exit r (inr (n, a, x)) z = absurd (omega (arith, z, ap numberOf a))
 
-is-codeword : (d : ℕ) (exit : List ℕ) → d < 2 ^ 512 → exit ≡ fields 16 38 (codeword d) → Codeword (joined 16 (take 32 exit)) (joined 16 exit)
+is-codeword : (d : ℕ) (exit : List ℕ) → d < 2 ^ 512 → exit ≡ digits 16 38 (codeword d) → Codeword (joined 16 (take 32 exit)) (joined 16 exit)
 is-codeword d exit l x =
-    subst (λ (e : ℕ). Codeword e (joined 16 exit)) (sym (ap (λ ws. joined 16 (take 32 ws)) x ∙ ap (joined 16) (front d l) ∙ joined-fields 16 32 d l))
+    subst (λ (e : ℕ). Codeword e (joined 16 exit)) (sym (ap (λ ws. joined 16 (take 32 ws)) x ∙ ap (joined 16) (front d l) ∙ joined-digits 16 32 d l))
     (subst (Codeword d) (sym (ap (joined 16) x ∙ whole d l)) (promised .meets d l))
 
 as-read : (ws exit : List ℕ) (r : Outcome) → Below 16 ws → Judged ws exit r → numberOf r ≢ 0 → exit ≡ ws
 as-read ws exit r small (inl (n, a, x)) ne =
     let v : codes.Verdict = verdict blockCode (joined 16 ws) in
-    x ∙ ap (fields 16 38) (as-it-was blockCode 2 (joined 16 ws) v (λ z. ne (ap numberOf a ∙ number-of v ∙ z))) ∙ back ws (n, small)
+    x ∙ ap (digits 16 38) (as-it-was blockCode 2 (joined 16 ws) v (λ z. ne (ap numberOf a ∙ number-of v ∙ z))) ∙ back ws (n, small)
 as-read ws exit r small (inr (n, a, x)) ne = x
 
 changed : (ws exit : List ℕ) (r : Outcome) → Below 16 ws → Judged ws exit r → flipsIn r ≡ dist (joined 16 ws) (joined 16 exit)
@@ -172,20 +172,20 @@ changed ws exit r small (inl (n, a, x)) =
 changed ws exit r small (inr (n, a, x)) = ap flipsIn a ∙ sym (ap (λ e. dist (joined 16 ws) (joined 16 e)) x ∙ dist-self (joined 16 ws))
 
 -- a codeword is clean
-clean-codeword : (d : ℕ) (ws exit : List ℕ) (r : Outcome) → d < 2 ^ 512 → ws ≡ fields 16 38 (codeword d) → Judged ws exit r → (r ≡ Clean) × (exit ≡ ws)
+clean-codeword : (d : ℕ) (ws exit : List ℕ) (r : Outcome) → d < 2 ^ 512 → ws ≡ digits 16 38 (codeword d) → Judged ws exit r → (r ≡ Clean) × (exit ≡ ws)
 clean-codeword d ws exit r l e j =
     let (a, x) =
-    of-word ws exit r (codeword d) (clean d) (ap length e ∙ length-fields 16 38 (codeword d)) (ap (joined 16) e ∙ whole d l) (promised .verdicts .unharmed d l) j in
+    of-word ws exit r (codeword d) (clean d) (ap length e ∙ length-digits 16 38 (codeword d)) (ap (joined 16) e ∙ whole d l) (promised .verdicts .unharmed d l) j in
     (a, x ∙ sym e)
 
 -- a verdict that hands data out
 answers : (ws exit : List ℕ) (r : Outcome) (w d n : ℕ) → length ws ≡ 38 → joined 16 ws ≡ w → verdict blockCode w ≡ answered d n
-    → Judged ws exit r → (numberOf r ≡ 0) × (flipsIn r ≡ n) × (exit ≡ fields 16 38 (codeword d))
+    → Judged ws exit r → (numberOf r ≡ 0) × (flipsIn r ≡ n) × (exit ≡ digits 16 38 (codeword d))
 answers ws exit r w d n m e p j =
     let (a, x) = of-word ws exit r w (answered d n) m e p j in (
       ap numberOf a ∙ number d n,
       ap flipsIn a ∙ flips d n,
-      x ∙ ap (fields 16 38) (answered-repaired blockCode w d n),
+      x ∙ ap (digits 16 38) (answered-repaired blockCode w d n),
     )
   where
     number : (d n : ℕ) → numberOf (answerOf (answered d n)) ≡ 0
@@ -197,11 +197,11 @@ answers ws exit r w d n m e p j =
     flips d (suc n) = refl
 
 undone : (d p : ℕ) (exit : List ℕ) (r : Outcome) → d < 2 ^ 512 → p < 2 ^ 608 → ones p ≤ 2
-    → Judged (fields 16 38 (bitXor (codeword d) p)) exit r → (numberOf r ≡ 0) × (flipsIn r ≡ ones p) × (exit ≡ fields 16 38 (codeword d))
+    → Judged (digits 16 38 (bitXor (codeword d) p)) exit r → (numberOf r ≡ 0) × (flipsIn r ≡ ones p) × (exit ≡ digits 16 38 (codeword d))
 undone d p exit r l h few j =
     let w : ℕ = bitXor (codeword d) p in
-    answers (fields 16 38 w) exit r w d (ones p) (length-fields 16 38 w)
-    (joined-fields 16 38 w (xor-lt 608 (codeword d) p (codeword-lt d l) h)) (promised .verdicts .undone d p l few) j
+    answers (digits 16 38 w) exit r w d (ones p) (length-digits 16 38 w)
+    (joined-digits 16 38 w (xor-lt 608 (codeword d) p (codeword-lt d l) h)) (promised .verdicts .undone d p l few) j
 
 again : (ws once twice : List ℕ) (r s : Outcome) → Below 16 ws → Judged ws once r → Judged once twice s
     → (twice ≡ once) × (flipsIn s ≡ 0) × (numberOf s ≡ numberOf r)
@@ -209,8 +209,8 @@ again ws once twice r s small (inl (n, a, x)) j =
     let w : ℕ = joined 16 ws in
     let v : codes.Verdict = verdict blockCode (scrubbed blockCode w) in
     let (b, y) =
-    of-word once twice s (scrubbed blockCode w) v (ap length x ∙ length-fields 16 38 (scrubbed blockCode w)) (scrubbed-number ws once n small x) refl j in (
-      y ∙ ap (fields 16 38) (tallies blockCode (promised .verdicts) .again w) ∙ sym x,
+    of-word once twice s (scrubbed blockCode w) v (ap length x ∙ length-digits 16 38 (scrubbed blockCode w)) (scrubbed-number ws once n small x) refl j in (
+      y ∙ ap (digits 16 38) (tallies blockCode (promised .verdicts) .again w) ∙ sym x,
       ap flipsIn b ∙ flips-in v ∙ again-no-flips blockCode (promised .verdicts) w,
       ap numberOf b ∙ number-of v ∙ again-number blockCode (promised .verdicts) 2 w ∙ sym (ap numberOf a ∙ number-of (verdict blockCode w)),
     )
@@ -237,7 +237,7 @@ scrub-promised = record {
   encoded = λ values before ws exit a r small e z h.
       let (n, d, x) = done values before ws a e z in
       clean-codeword (joined 16 values) ws exit r (joined-lt 16 32 values n small) x (judged ws exit r h);
-  undone = λ d p exit r l h few s. undone d p exit r l h few (judged (fields 16 38 (bitXor (codeword d) p)) exit r s);
+  undone = λ d p exit r l h few s. undone d p exit r l h few (judged (digits 16 38 (bitXor (codeword d) p)) exit r s);
   again = λ ws once twice r s small h k. again ws once twice r s small (judged ws once r h) (judged once twice s k);
   again-clean = λ ws once twice r s h z k.
       let (d, l, x) = some-codeword ws once r (judged ws once r h) z in clean-codeword d once twice s l x (judged once twice s k) .0;

@@ -6,7 +6,7 @@ use Prim.Native.Nat.{ℕ}
 use lib.Dec.{eqb}
 use lib.ListN.{length}
 use Rattle.words.specs.Word.{choose}
-use Rattle.words.specs.Fields.{fields, joined}
+use Rattle.words.specs.Digits.{digits, joined}
 use Rattle.codes.specs.Verdict.{verdict, scrubbed}
 use Rattle.block_code.specs.Equations.{Codeword}
 use Rattle.block_code.specs.Code.{codeword, blockCode}
@@ -24,11 +24,11 @@ allowed values before = eqb (length values) 32 && eqb (length before) 38
 -- refused, and nothing is written.
 pub record Encoded (values before : List ℕ) (r : Written) (exit : List ℕ) : Type 0 where
   pub answer : r ≡ choose (allowed values before) Done OtherLength
-  pub after : exit ≡ choose (allowed values before) (fields 16 38 (codeword (joined 16 values))) before
+  pub after : exit ≡ choose (allowed values before) (digits 16 38 (codeword (joined 16 values))) before
   pub meets : r ≡ Done → Codeword (joined 16 values) (joined 16 exit)
 
 -- `Block::scrub`: document 01's verdict on exactly 38 words, which afterwards are the codeword, or as they were where there is none. Any
 -- other length is refused, and nothing is written.
 pub record Scrubbed (before : List ℕ) (r : Outcome) (exit : List ℕ) : Type 0 where
   pub answer : r ≡ choose (eqb (length before) 38) (answerOf (verdict blockCode (joined 16 before))) Length
-  pub after : exit ≡ choose (eqb (length before) 38) (fields 16 38 (scrubbed blockCode (joined 16 before))) before
+  pub after : exit ≡ choose (eqb (length before) 38) (digits 16 38 (scrubbed blockCode (joined 16 before))) before

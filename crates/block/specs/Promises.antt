@@ -8,7 +8,7 @@ use lib.Bits.{bitXor}
 use lib.Count.{ones}
 use lib.ListN.{length, take}
 use Rattle.words.specs.Word.{dist}
-use Rattle.words.specs.Fields.{fields, joined, Below}
+use Rattle.words.specs.Digits.{digits, joined, Below}
 use Rattle.codes.specs.Verdict as codes
 use Rattle.codes.specs.Verdict.{IsVerdict, Tie, refusal, flipsOf, repaired}
 use Rattle.block_code.specs.Equations.{Codeword}
@@ -42,7 +42,7 @@ pub record ScrubPromises : Type 0 where
   pub numbers : (ws exit : List ℕ) (r : Outcome) → length ws ≡ 38 → Scrubbed ws r exit → (numberOf r ≡ 0) ⊎ (numberOf r ≡ 2)
   -- Answer and words are those of document 01's verdict, the codeword or the words as they were; and every word has a verdict.
   pub is-verdict : (ws exit : List ℕ) (r : Outcome) (v : codes.Verdict) → length ws ≡ 38 → Scrubbed ws r exit
-      → IsVerdict blockCode (joined 16 ws) v → (r ≡ answerOf v) × (exit ≡ fields 16 38 (repaired blockCode (joined 16 ws) v))
+      → IsVerdict blockCode (joined 16 ws) v → (r ≡ answerOf v) × (exit ≡ digits 16 38 (repaired blockCode (joined 16 ws) v))
   pub has-verdict : (ws : List ℕ) → (v : codes.Verdict) × IsVerdict blockCode (joined 16 ws) v
   -- The number and the flips of an answer are those of its verdict.
   pub numbers-of : (v : codes.Verdict) → (numberOf (answerOf v) ≡ refusal 2 v) × (flipsIn (answerOf v) ≡ flipsOf v)
@@ -50,7 +50,7 @@ pub record ScrubPromises : Type 0 where
   -- where none is, the block is lost.
   pub within : (ws exit : List ℕ) (r : Outcome) (d : ℕ) → length ws ≡ 38 → Scrubbed ws r exit → d < 2 ^ 512
       → dist (joined 16 ws) (codeword d) ≤ 2
-      → (numberOf r ≡ 0) × (flipsIn r ≡ dist (joined 16 ws) (codeword d)) × (exit ≡ fields 16 38 (codeword d))
+      → (numberOf r ≡ 0) × (flipsIn r ≡ dist (joined 16 ws) (codeword d)) × (exit ≡ digits 16 38 (codeword d))
   pub beyond : (ws exit : List ℕ) (r : Outcome) → length ws ≡ 38 → Scrubbed ws r exit
       → ((d : ℕ) → d < 2 ^ 512 → 2 < dist (joined 16 ws) (codeword d)) → r ≡ Lost
   -- Where nothing is refused the words are a codeword afterwards, so words 0 to 31 are its data; ..
@@ -65,7 +65,7 @@ pub record ScrubPromises : Type 0 where
       → Scrubbed ws r exit → (r ≡ Clean) × (exit ≡ ws)
   -- Up to two flips of a written block, checks included, are undone, with the right count.
   pub undone : (d p : ℕ) (exit : List ℕ) (r : Outcome) → d < 2 ^ 512 → p < 2 ^ 608 → ones p ≤ 2
-      → Scrubbed (fields 16 38 (bitXor (codeword d) p)) r exit → (numberOf r ≡ 0) × (flipsIn r ≡ ones p) × (exit ≡ fields 16 38 (codeword d))
+      → Scrubbed (digits 16 38 (bitXor (codeword d) p)) r exit → (numberOf r ≡ 0) × (flipsIn r ≡ ones p) × (exit ≡ digits 16 38 (codeword d))
   -- A second scrub changes nothing. It is clean where the first was not refused, and else as the first.
   pub again : (ws once twice : List ℕ) (r s : Outcome) → Below 16 ws → Scrubbed ws r once → Scrubbed once s twice
       → (twice ≡ once) × (flipsIn s ≡ 0) × (numberOf s ≡ numberOf r)

@@ -18,7 +18,7 @@
 ghost use mathlib.Core.Path.{_≡_};
 ghost use mathlib.Core.Logic.{_≢_};
 ghost use lib.ListN.{length};
-ghost use Rattle.words.specs.Fields.{joined};
+ghost use Rattle.words.specs.Digits.{joined};
 ghost use Rattle.codes.specs.Promises.{States};
 ghost use Rattle.block_code.specs.Code.{blockCode};
 ghost use Rattle.block_code.specs.Checks.{noChecks, syndromeOf};

@@ -13,10 +13,10 @@ use lib.Count.{ones, ones-cat, ones-ones}
 use lib.Dec.{lit<}
 use lib.Pow.{pow-pos, pow-add, shr-lt, split}
 use Rattle.words.specs.Word.{dist}
-use Rattle.words.specs.Fields.{fields}
+use Rattle.words.specs.Digits.{digits}
 use Rattle.words.proofs.Bit.{by-bit, odd-lt}
 use Rattle.words.proofs.Dist.{ones-zero, zero-of-ones}
-use Rattle.words.proofs.Fields.{dist-cat}
+use Rattle.words.proofs.Digits.{dist-cat}
 use Rattle.words.proofs.Linear.{same, at-zero}
 use Rattle.words.proofs.Ones.{ones-shl}
 use Rattle.words.proofs.Xor.{eq-of-xor}
@@ -205,9 +205,9 @@ unfolding codeword dist
 apart d e hd he =
     dist-cat 512 (top d) (top e) d e hd he
     ∙ ap (λ (y : ℕ). ones x + y)
-    (dist-cat 32 (upper d) (upper e) (rowsOf (fields 16 32 d)) (rowsOf (fields 16 32 e)) (rows-lt d) (rows-lt e)
+    (dist-cat 32 (upper d) (upper e) (rowsOf (digits 16 32 d)) (rowsOf (digits 16 32 e)) (rows-lt d) (rows-lt e)
     ∙ ap₂ (λ (a b : ℕ). ones a + b) (sym (rowSums .sum d e))
-    (dist-cat 16 (diagonalsOf (fields 16 32 d)) (diagonalsOf (fields 16 32 e)) (columnsOf (fields 16 32 d)) (columnsOf (fields 16 32 e))
+    (dist-cat 16 (diagonalsOf (digits 16 32 d)) (diagonalsOf (digits 16 32 e)) (columnsOf (digits 16 32 d)) (columnsOf (digits 16 32 e))
     (columns-lt d) (columns-lt e)
     ∙ ap₂ (λ (a b : ℕ). ones a + b) (sym (columnSums .sum d e)) (ap ones (sym (diagonalSums .sum d e)) ∙ last)))
   where
@@ -215,10 +215,10 @@ apart d e hd he =
     x = bitXor d e
 
     upper : ℕ → ℕ
-    upper d = diagonalsOf (fields 16 32 d) * 2 ^ 16 + columnsOf (fields 16 32 d)
+    upper d = diagonalsOf (digits 16 32 d) * 2 ^ 16 + columnsOf (digits 16 32 d)
 
     top : ℕ → ℕ
-    top d = upper d * 2 ^ 32 + rowsOf (fields 16 32 d)
+    top d = upper d * 2 ^ 32 + rowsOf (digits 16 32 d)
 
     last : ones (bitXor (D 32 x) (odd (R 32 x) * 2 ^ 47)) ≡ ones (D 32 x) + odd (R 32 x)
     last =

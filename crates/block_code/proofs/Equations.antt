@@ -9,7 +9,7 @@ use lib.Bits.{bitXor, differ}
 use lib.Dec.{eqb}
 use borrow.Author.Tests.{eq-eqb, ne-eqb}
 use Rattle.words.specs.Word.{choose, bit, sumTo}
-use Rattle.words.specs.Fields.{fields}
+use Rattle.words.specs.Digits.{digits}
 use Rattle.words.proofs.Bit.{bit-zero, bit-xor, bit-xor-sum, bit-lower, bit-upper, differ-zero, eq-of-bits}
 use Rattle.words.proofs.Linear.{Linear, at-zero, by-places}
 use Rattle.words.proofs.Ones.{bit-pow}
@@ -106,13 +106,13 @@ module _ (test : ℕ → ℕ → Bool) where
 
 module _ (d : ℕ) (h : d < 2 ^ 512) where
   abbrev rows : ℕ
-  rows = rowsOf (fields 16 32 d)
+  rows = rowsOf (digits 16 32 d)
 
   abbrev columns : ℕ
-  columns = columnsOf (fields 16 32 d)
+  columns = columnsOf (digits 16 32 d)
 
   abbrev diagonals : ℕ
-  diagonals = diagonalsOf (fields 16 32 d)
+  diagonals = diagonalsOf (digits 16 32 d)
 
   at-data : (r c : ℕ) → r < 32 → c < 16 → inWord (codeword d) r c ≡ inWord d r c
   unfolding codeword

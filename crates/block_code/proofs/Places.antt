@@ -8,7 +8,7 @@ use native.Mathlib.Omega.{arith}
 use lib.Bits.{bitXor}
 use lib.Dec.{lit<}
 use lib.Pow.{pow-pos, pow-lt, pow-add, shl-shr, shr-shr, low}
-use Rattle.words.specs.Fields.{fields}
+use Rattle.words.specs.Digits.{digits}
 use Rattle.words.proofs.Dist.{ones-zero}
 use Rattle.words.proofs.Linear.{Linear, same, then, at-zero, by-places}
 use Rattle.words.proofs.Ones.{ones-pow}
@@ -31,7 +31,7 @@ held-none w h =
     grown : (k : ℕ) → 512 < k → w < 2 ^ k
     grown k l = lt-trans h (pow-lt l)
 
-said-none : (x : ℕ) → saidBy (fields 16 32 (x * 2 ^ 512)) ≡ noChecks
+said-none : (x : ℕ) → saidBy (digits 16 32 (x * 2 ^ 512)) ≡ noChecks
 said-none x =
     let r = stack-behind 1 parity 32 x in
     let c = stack-behind 0 same 32 x in
@@ -60,15 +60,15 @@ module _ (r c : ℕ) (hr : r < 32) (hc : c < 16) where
   unfolding syndromeOf
   place-data =
       let inside : 16 * r + c < 512 = omega arith in
-      let said : saidBy (fields 16 32 (2 ^ (16 * r + c))) ≡ record { rows = 2 ^ r; columns = 2 ^ c; diagonals = bitXor (2 ^ (r + c)) (2 ^ 47) } =
+      let said : saidBy (digits 16 32 (2 ^ (16 * r + c))) ≡ record { rows = 2 ^ r; columns = 2 ^ c; diagonals = bitXor (2 ^ (r + c)) (2 ^ 47) } =
       λ i. record { rows = rows-at i; columns = columns-at i; diagonals = diagonals-at i } in
-      ap (mixed (saidBy (fields 16 32 (2 ^ (16 * r + c))))) (held-none (2 ^ (16 * r + c)) (pow-lt inside))
-      ∙ mixed-none (saidBy (fields 16 32 (2 ^ (16 * r + c)))) ∙ said
+      ap (mixed (saidBy (digits 16 32 (2 ^ (16 * r + c))))) (held-none (2 ^ (16 * r + c)) (pow-lt inside))
+      ∙ mixed-none (saidBy (digits 16 32 (2 ^ (16 * r + c)))) ∙ said
 
 -- the system parity is that of the columns too
-pub system-columns : (d : ℕ) → d < 2 ^ 512 → odd (rowsOf (fields 16 32 d)) ≡ odd (columnsOf (fields 16 32 d))
+pub system-columns : (d : ℕ) → d < 2 ^ 512 → odd (rowsOf (digits 16 32 d)) ≡ odd (columnsOf (digits 16 32 d))
 system-columns =
-    by-places (λ (d : ℕ). odd (rowsOf (fields 16 32 d)) ≡ odd (columnsOf (fields 16 32 d))) (at-zero rows ∙ sym (at-zero columns))
+    by-places (λ (d : ℕ). odd (rowsOf (digits 16 32 d)) ≡ odd (columnsOf (digits 16 32 d))) (at-zero rows ∙ sym (at-zero columns))
     (λ a b p q. rows .sum a b ∙ ap₂ bitXor p q ∙ sym (columns .sum a b)) 512 place
   where
     rows : Linear
@@ -77,19 +77,19 @@ system-columns =
     columns : Linear
     columns = then columnSums parity
 
-    place : (k : ℕ) → k < 512 → odd (rowsOf (fields 16 32 (2 ^ k))) ≡ odd (columnsOf (fields 16 32 (2 ^ k)))
+    place : (k : ℕ) → k < 512 → odd (rowsOf (digits 16 32 (2 ^ k))) ≡ odd (columnsOf (digits 16 32 (2 ^ k)))
     place k l =
         let e : k ≡ 16 * (k / 16) + k % 16 = omega arith in
-        ap (λ (x : ℕ). odd (rowsOf (fields 16 32 (2 ^ x)))) e
+        ap (λ (x : ℕ). odd (rowsOf (digits 16 32 (2 ^ x)))) e
         ∙ ap odd (rows-at (k / 16) (k % 16) (omega arith) (omega arith)) ∙ ap (λ (x : ℕ). x % 2) (ones-pow (k / 16) ∙ sym (ones-pow (k % 16)))
         ∙ sym (ap odd (columns-at (k / 16) (k % 16) (omega arith) (omega arith)))
-        ∙ ap (λ (x : ℕ). odd (columnsOf (fields 16 32 (2 ^ x)))) (sym e)
+        ∙ ap (λ (x : ℕ). odd (columnsOf (digits 16 32 (2 ^ x)))) (sym e)
 
 -- check k, of 96: what a block holds that has nothing else
 check : (k : ℕ) → ofPlace (512 + k) ≡ record { rows = 2 ^ k % 2 ^ 32; columns = 2 ^ k / 2 ^ 32 % 2 ^ 16; diagonals = 2 ^ k / 2 ^ 48 % 2 ^ 48 }
 unfolding syndromeOf
 check k =
-    ap (λ (x : ℕ). mixed (saidBy (fields 16 32 x)) (heldBy x)) place
+    ap (λ (x : ℕ). mixed (saidBy (digits 16 32 x)) (heldBy x)) place
     ∙ ap (λ (s : Checks). mixed s (heldBy (2 ^ k * 2 ^ 512))) (said-none (2 ^ k)) ∙ held
   where
     place : 2 ^ (512 + k) ≡ 2 ^ k * 2 ^ 512

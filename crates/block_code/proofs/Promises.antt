@@ -1,7 +1,7 @@
 -- What specs/Promises.antt says of the block's code holds. Assumes nothing.
 use mathlib.Core.Path.{sym}
 use lib.Dec.{lit<}
-use Rattle.words.proofs.Fields.{bit-fields, joined-fields, fields-joined}
+use Rattle.words.proofs.Digits.{bit-digits, joined-digits, digits-joined}
 use Rattle.codes.proofs.Promises.{every-code}
 use Rattle.block_code.specs.Code.{blockCode}
 use Rattle.block_code.specs.Promises.{BlockPromises}
@@ -10,9 +10,9 @@ use Rattle.block_code.proofs.Equations.{meets, one-solution, one-value}
 
 pub promised : BlockPromises
 promised = record {
-  places = λ w i c hi hc. sym (bit-fields 16 38 w i c hi hc);
-  there-and-back = joined-fields 16 38;
-  back-and-there = fields-joined 16 38;
+  places = λ w i c hi hc. sym (bit-digits 16 38 w i c hi hc);
+  there-and-back = joined-digits 16 38;
+  back-and-there = digits-joined 16 38;
   meets = meets;
   one-solution = one-solution;
   one-value = one-value;

@@ -8,7 +8,7 @@ use lib.Bits.{bitXor, bitAnd, xor-shr, xor-mod, xor-lt, xor-zero-r}
 use lib.Count.{ones}
 use lib.ListN.{length, getD}
 use lib.Pow.{pow-pos, pow-lt, pow-mono, pow-add, shl-lt, shl-shr}
-use Rattle.words.specs.Fields.{fields}
+use Rattle.words.specs.Digits.{digits}
 use Rattle.words.proofs.Bit.{by-bit, odd-lt}
 use Rattle.words.proofs.Dist.{ones-xor}
 use Rattle.words.proofs.Linear.{Linear, at-zero}
@@ -33,46 +33,46 @@ parity = record { at = odd; sum = odd-sum }
 
 module _ (m : ℕ) (f : Linear) where
   pub stack-sum : (n a b : ℕ)
-      → stacked m (f .at) (fields 16 n (bitXor a b)) ≡ bitXor (stacked m (f .at) (fields 16 n a)) (stacked m (f .at) (fields 16 n b))
+      → stacked m (f .at) (digits 16 n (bitXor a b)) ≡ bitXor (stacked m (f .at) (digits 16 n a)) (stacked m (f .at) (digits 16 n b))
   unfolding stacked
   stack-sum zero a b = refl
   stack-sum (suc n) a b =
-      ap₂ (λ (x y : ℕ). bitXor (stacked m (f .at) (fields 16 n x) * 2 ^ m) (f .at y)) (xor-shr a b 16) (xor-mod a b 16)
+      ap₂ (λ (x y : ℕ). bitXor (stacked m (f .at) (digits 16 n x) * 2 ^ m) (f .at y)) (xor-shr a b 16) (xor-mod a b 16)
       ∙ ap₂ (λ (x y : ℕ). bitXor (x * 2 ^ m) y) (stack-sum n (a / 2 ^ 16) (b / 2 ^ 16)) (f .sum (a % 2 ^ 16) (b % 2 ^ 16))
       ∙ ap (λ (x : ℕ). bitXor x (bitXor (f .at (a % 2 ^ 16)) (f .at (b % 2 ^ 16))))
-      (xor-shl m (stacked m (f .at) (fields 16 n (a / 2 ^ 16))) (stacked m (f .at) (fields 16 n (b / 2 ^ 16))))
-      ∙ xor-swap (stacked m (f .at) (fields 16 n (a / 2 ^ 16)) * 2 ^ m) (stacked m (f .at) (fields 16 n (b / 2 ^ 16)) * 2 ^ m)
+      (xor-shl m (stacked m (f .at) (digits 16 n (a / 2 ^ 16))) (stacked m (f .at) (digits 16 n (b / 2 ^ 16))))
+      ∙ xor-swap (stacked m (f .at) (digits 16 n (a / 2 ^ 16)) * 2 ^ m) (stacked m (f .at) (digits 16 n (b / 2 ^ 16)) * 2 ^ m)
       (f .at (a % 2 ^ 16)) (f .at (b % 2 ^ 16))
 
   -- the n words of a number
   abbrev pub stack : ℕ → Linear
-  stack n = record { at = λ x. stacked m (f .at) (fields 16 n x); sum = stack-sum n }
+  stack n = record { at = λ x. stacked m (f .at) (digits 16 n x); sum = stack-sum n }
 
   -- ---- one place
 
   -- a number with no place in its lowest word
-  next : (n x : ℕ) → stacked m (f .at) (fields 16 (suc n) (x * 2 ^ 16)) ≡ stacked m (f .at) (fields 16 n x) * 2 ^ m
+  next : (n x : ℕ) → stacked m (f .at) (digits 16 (suc n) (x * 2 ^ 16)) ≡ stacked m (f .at) (digits 16 n x) * 2 ^ m
   unfolding stacked
   next n x =
-      ap₂ (λ (a b : ℕ). bitXor (stacked m (f .at) (fields 16 n a) * 2 ^ m) (f .at b)) (shl-shr x 16) even
-      ∙ ap (bitXor (stacked m (f .at) (fields 16 n x) * 2 ^ m)) (at-zero f)
-      ∙ xor-zero-r (stacked m (f .at) (fields 16 n x) * 2 ^ m)
+      ap₂ (λ (a b : ℕ). bitXor (stacked m (f .at) (digits 16 n a) * 2 ^ m) (f .at b)) (shl-shr x 16) even
+      ∙ ap (bitXor (stacked m (f .at) (digits 16 n x) * 2 ^ m)) (at-zero f)
+      ∙ xor-zero-r (stacked m (f .at) (digits 16 n x) * 2 ^ m)
     where
       even : x * 2 ^ 16 % 2 ^ 16 ≡ 0
       even = omega arith
 
-  pub stack-place : (n r c : ℕ) → r < n → c < 16 → stacked m (f .at) (fields 16 n (2 ^ (16 * r + c))) ≡ f .at (2 ^ c) * 2 ^ (m * r)
+  pub stack-place : (n r c : ℕ) → r < n → c < 16 → stacked m (f .at) (digits 16 n (2 ^ (16 * r + c))) ≡ f .at (2 ^ c) * 2 ^ (m * r)
   unfolding stacked
   stack-place zero r c l h = absurd (not-suc-le-zero l)
   stack-place (suc n) zero c l h =
       let small : 2 ^ c < 2 ^ 16 = pow-lt h in
-      ap (λ (x : ℕ). stacked m (f .at) (fields 16 (suc n) (2 ^ x))) (omega arith)
-      ∙ ap₂ (λ (a b : ℕ). bitXor (stacked m (f .at) (fields 16 n a) * 2 ^ m) (f .at b)) (div-eq-of-lt small) (mod-eq-of-lt small)
+      ap (λ (x : ℕ). stacked m (f .at) (digits 16 (suc n) (2 ^ x))) (omega arith)
+      ∙ ap₂ (λ (a b : ℕ). bitXor (stacked m (f .at) (digits 16 n a) * 2 ^ m) (f .at b)) (div-eq-of-lt small) (mod-eq-of-lt small)
       ∙ ap (λ (x : ℕ). bitXor (x * 2 ^ m) (f .at (2 ^ c))) (at-zero (stack n))
       ∙ ap (λ (x : ℕ). bitXor x (f .at (2 ^ c))) (zero-mul (2 ^ m))
       ∙ omega (arith, ap (λ (x : ℕ). f .at (2 ^ c) * 2 ^ x) (mul-zero m))
   stack-place (suc n) (suc r) c l h =
-      ap (λ (x : ℕ). stacked m (f .at) (fields 16 (suc n) x)) (ap (λ (x : ℕ). 2 ^ x) up ∙ pow-add 2 (16 * r + c) 16)
+      ap (λ (x : ℕ). stacked m (f .at) (digits 16 (suc n) x)) (ap (λ (x : ℕ). 2 ^ x) up ∙ pow-add 2 (16 * r + c) 16)
       ∙ next n (2 ^ (16 * r + c))
       ∙ ap (λ (x : ℕ). x * 2 ^ m) (stack-place n r c (le-of-suc-le-suc l) h)
       ∙ mul-assoc (f .at (2 ^ c)) (2 ^ (m * r)) (2 ^ m)
@@ -82,11 +82,11 @@ module _ (m : ℕ) (f : Linear) where
       up = omega arith
 
   -- what stands behind the n words does not count
-  pub stack-behind : (n x : ℕ) → stacked m (f .at) (fields 16 n (x * 2 ^ (16 * n))) ≡ 0
+  pub stack-behind : (n x : ℕ) → stacked m (f .at) (digits 16 n (x * 2 ^ (16 * n))) ≡ 0
   unfolding stacked
   stack-behind zero x = refl
   stack-behind (suc n) x =
-      ap (λ (y : ℕ). stacked m (f .at) (fields 16 (suc n) y))
+      ap (λ (y : ℕ). stacked m (f .at) (digits 16 (suc n) y))
       (ap (λ (y : ℕ). x * 2 ^ y) up ∙ ap (λ (y : ℕ). x * y) (pow-add 2 (16 * n) 16) ∙ sym (mul-assoc x (2 ^ (16 * n)) (2 ^ 16)))
       ∙ next n (x * 2 ^ (16 * n)) ∙ ap (λ (y : ℕ). y * 2 ^ m) (stack-behind n x) ∙ zero-mul (2 ^ m)
     where
@@ -94,7 +94,7 @@ module _ (m : ℕ) (f : Linear) where
       up = omega arith
 
 -- a word's parity at one of its places
-pub parity-place : (n r c : ℕ) → r < n → c < 16 → stacked 1 odd (fields 16 n (2 ^ (16 * r + c))) ≡ 2 ^ r
+pub parity-place : (n r c : ℕ) → r < n → c < 16 → stacked 1 odd (digits 16 n (2 ^ (16 * r + c))) ≡ 2 ^ r
 parity-place n r c l h =
     stack-place 1 parity n r c l h ∙ ap (λ (x : ℕ). x % 2 * 2 ^ (1 * r)) (ones-pow c) ∙ one-mul (2 ^ (1 * r)) ∙ ap (λ (x : ℕ). 2 ^ x) (one-mul r)
 

@@ -6,7 +6,7 @@ use mathlib.Core.Bool.{Bool, true, false}
 use mathlib.Core.List.{List, [], _∷_}
 use Prim.Native.Nat.{ℕ, _/_, _%_, _^_}
 use lib.Bits.{bitXor}
-use Rattle.words.specs.Fields.{fields}
+use Rattle.words.specs.Digits.{digits}
 use Rattle.block_code.specs.Code.{rowsOf, columnsOf, diagonalsOf}
 use Rattle.block_code.specs.declared.Checks.{Checks}
 
@@ -31,7 +31,7 @@ heldBy w = record { rows = w / 2 ^ 512 % 2 ^ 32; columns = w / 2 ^ 544 % 2 ^ 16;
 
 -- where the two differ
 unfoldable pub syndromeOf : ℕ → Checks
-syndromeOf w = mixed (saidBy (fields 16 32 w)) (heldBy w)
+syndromeOf w = mixed (saidBy (digits 16 32 w)) (heldBy w)
 
 -- the checks that a flip at place p changes
 abbrev pub ofPlace : ℕ → Checks

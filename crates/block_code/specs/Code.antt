@@ -3,7 +3,7 @@ use mathlib.Core.List.{List, [], _∷_}
 use Prim.Native.Nat.{ℕ, _+_, _*_, _%_, _^_}
 use lib.Bits.{bitXor}
 use lib.Count.{ones}
-use Rattle.words.specs.Fields.{fields}
+use Rattle.words.specs.Digits.{digits}
 use Rattle.codes.specs.Verdict.{Code}
 
 -- 1 where the number of ones is odd, and 0 where it is even
@@ -25,14 +25,14 @@ columnsOf ws = stacked 0 (λ x. x) ws
 abbrev pub diagonalsOf : List ℕ → ℕ
 diagonalsOf ws = bitXor (stacked 1 (λ x. x) ws) (odd (rowsOf ws) * 2 ^ 47)
 
--- the checks behind the data: rows, columns, diagonals
-abbrev pub behind : ℕ → ℕ → ℕ → ℕ → ℕ
-behind d rows columns diagonals = ((diagonals * 2 ^ 16 + columns) * 2 ^ 32 + rows) * 2 ^ 512 + d
+-- the data with its checks behind it: rows, columns, diagonals
+abbrev pub withChecks : ℕ → ℕ → ℕ → ℕ → ℕ
+withChecks d rows columns diagonals = ((diagonals * 2 ^ 16 + columns) * 2 ^ 32 + rows) * 2 ^ 512 + d
 
 -- The block of the data d. What it is, specs/Equations.antt says: this is the one solution (specs/Promises.antt, `meets` and
 -- `one-solution`).
 unfoldable pub codeword : ℕ → ℕ
-codeword d = behind d (rowsOf (fields 16 32 d)) (columnsOf (fields 16 32 d)) (diagonalsOf (fields 16 32 d))
+codeword d = withChecks d (rowsOf (digits 16 32 d)) (columnsOf (digits 16 32 d)) (diagonalsOf (digits 16 32 d))
 
 abbrev pub blockCode : Code
 blockCode = record { values = 2 ^ 512; encode = codeword; places = 608; radius = 2 }

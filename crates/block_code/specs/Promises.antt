@@ -4,17 +4,17 @@ use mathlib.Core.List.{List}
 use Prim.Native.Nat.{ℕ, _^_, _<_}
 use lib.ListN.{length, getD}
 use Rattle.words.specs.Word.{bit}
-use Rattle.words.specs.Fields.{fields, joined, Below}
+use Rattle.words.specs.Digits.{digits, joined, Below}
 use Rattle.codes.specs.Promises.{States, Promises}
 use Rattle.block_code.specs.Equations.{inWord, Codeword}
 use Rattle.block_code.specs.Code.{codeword, blockCode}
 
 pub record BlockPromises : Type 0 where
   -- Word i is 16 bits of the number, word 0 the lowest, and bit 0 of a word is the lowest.
-  pub places : (w i c : ℕ) → i < 38 → c < 16 → bit (getD (fields 16 38 w) i 0) c ≡ inWord w i c
+  pub places : (w i c : ℕ) → i < 38 → c < 16 → bit (getD (digits 16 38 w) i 0) c ≡ inWord w i c
   -- From the number to the words and back nothing changes, nor from 38 words to the number and back.
-  pub there-and-back : (w : ℕ) → w < 2 ^ 608 → joined 16 (fields 16 38 w) ≡ w
-  pub back-and-there : (ws : List ℕ) → length ws ≡ 38 → Below 16 ws → fields 16 38 (joined 16 ws) ≡ ws
+  pub there-and-back : (w : ℕ) → w < 2 ^ 608 → joined 16 (digits 16 38 w) ≡ w
+  pub back-and-there : (ws : List ℕ) → length ws ≡ 38 → Below 16 ws → digits 16 38 (joined 16 ws) ≡ ws
   -- Demand 2: encoding equals the parity equations, for all data.
   pub meets : (d : ℕ) → d < 2 ^ 512 → Codeword d (codeword d)
   -- They have one solution for each data value, ..

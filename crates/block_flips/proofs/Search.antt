@@ -11,7 +11,7 @@ use Rattle.block_code.specs.Checks.{noChecks, mixed, IsNone, ofPlace}
 use Rattle.block_code.specs.declared.Checks.{Checks}
 use Rattle.block_code.proofs.Mixing.{mixed-self, mixed-comm, mixed-back, eq-of-mixed}
 use Rattle.block_code.proofs.Places.{dataAt, place-data}
-use Rattle.block_flips.specs.Steps.{lowestOf, Explained, OnlyPlace, Fails, Tried, Among, Guessed, Found, isMore}
+use Rattle.block_flips.specs.Steps.{lowestOf, Explained, OnlyPlace, RuledOut, Attempted, Among, Guessed, Nearest, isMore}
 use Rattle.block_flips.specs.declared.Flips.{Flips}
 use Rattle.block_flips.specs.declared.Flips.the-variants.{One, Two, More}
 use Rattle.block_flips.proofs.Naming.{Only}
@@ -64,14 +64,14 @@ module _ (s : Checks) (r c : ℕ) (hr : r < 32) (hc : c < 16) where
 -- ---- a place tried
 
 module _ (s : Checks) (p : ℕ) where
-  pub tried-one : p < 608 → IsNone (mixed s (ofPlace p)) true → Tried s p (One p)
+  pub tried-one : p < 608 → IsNone (mixed s (ofPlace p)) true → Attempted s p (One p)
   tried-one h n = (h, left-none s p (n .yes refl))
 
-  pub tried-two : (q : ℕ) → p < 608 → q < 608 → OnlyPlace (mixed s (ofPlace p)) q → Tried s p (Two p q)
+  pub tried-two : (q : ℕ) → p < 608 → q < 608 → OnlyPlace (mixed s (ofPlace p)) q → Attempted s p (Two p q)
   tried-two q h l a = (h, l, ap (mixed (ofPlace p)) (a .sound l ∙ mixed-comm s (ofPlace p)) ∙ mixed-back (ofPlace p) s)
 
   -- what is left is not none, and no place alone explains it
-  pub tried-more : (q : ℕ) → IsNone (mixed s (ofPlace p)) false → OnlyPlace (mixed s (ofPlace p)) q → 608 ≤ q → Tried s p More
+  pub tried-more : (q : ℕ) → IsNone (mixed s (ofPlace p)) false → OnlyPlace (mixed s (ofPlace p)) q → 608 ≤ q → Attempted s p More
   tried-more q n a l = record {
     alone = λ h e. n .no refl (none-left s p e);
     paired = λ r h m e.
@@ -80,31 +80,31 @@ module _ (s : Checks) (p : ℕ) where
         absurd (omega (arith, l, a .all r m (sym left)));
   }
 
-  pub tried-nowhere : 608 ≤ p → Tried s p More
+  pub tried-nowhere : 608 ≤ p → Attempted s p More
   tried-nowhere l = record { alone = λ h. absurd (omega arith); paired = λ q h. absurd (omega arith) }
 
 -- ---- both guesses
 
 module _ (s : Checks) (p : ℕ) where
-  pub found : (f : Flips) → Tried s p f → isMore f ≡ false → Found s f
+  pub found : (f : Flips) → Attempted s p f → isMore f ≡ false → Nearest s f
   found (One a) t e = t
   found (Two a b) t e = t
   found More t e = absurd (true≢false e)
 
-  pub failed : (f : Flips) → Tried s p f → isMore f ≡ true → Fails s p
+  pub failed : (f : Flips) → Attempted s p f → isMore f ≡ true → RuledOut s p
   failed (One a) t e = absurd (true≢false (sym e))
   failed (Two a b) t e = absurd (true≢false (sym e))
   failed More t e = t
 
-  pub none-found : Guessed s p → Fails s p → Fails s (lowestOf s) → Found s More
+  pub none-found : Guessed s p → RuledOut s p → RuledOut s (lowestOf s) → Nearest s More
   none-found g x y = record {
     alone = λ q h e. fails q (g .alone q h e) .alone h e;
     paired = λ q r h m ne e. go q r h m e (g .paired q r h m ne e);
   }
     where
-      fails : (q : ℕ) → Among s p q → Fails s q
-      fails q (inl e) = subst (Fails s) e x
-      fails q (inr e) = subst (Fails s) e y
+      fails : (q : ℕ) → Among s p q → RuledOut s q
+      fails q (inl e) = subst (RuledOut s) e x
+      fails q (inr e) = subst (RuledOut s) e y
 
       go : (q r : ℕ) → q < 608 → r < 608 → mixed (ofPlace q) (ofPlace r) ≡ s → Among s p q ⊎ Among s p r → ⊥
       go q r h m e (inl a) = fails q a .paired r h m e

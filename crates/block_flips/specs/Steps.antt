@@ -35,12 +35,12 @@ Explains s N (Two p q) = (p < 608) × (q < 608) × (mixed (ofPlace p) (ofPlace q
 Explains s N More = N
 
 -- p is not the one flip, nor one of two, that explain s
-pub record Fails (s : Checks) (p : ℕ) : Type 0 where
+pub record RuledOut (s : Checks) (p : ℕ) : Type 0 where
   pub alone : p < 608 → ofPlace p ≢ s
   pub paired : (q : ℕ) → p < 608 → q < 608 → mixed (ofPlace p) (ofPlace q) ≢ s
 
-abbrev pub Tried : Checks → ℕ → Flips → Type 0
-Tried s p f = Explains s (Fails s p) f
+abbrev pub Attempted : Checks → ℕ → Flips → Type 0
+Attempted s p f = Explains s (RuledOut s p) f
 
 -- q is the place p or the lowest check, the two guesses
 abbrev pub Among : Checks → ℕ → ℕ → Type 0
@@ -56,8 +56,8 @@ pub record Unexplained (s : Checks) : Type 0 where
   pub alone : (p : ℕ) → p < 608 → ofPlace p ≢ s
   pub paired : (p q : ℕ) → p < 608 → q < 608 → p ≢ q → mixed (ofPlace p) (ofPlace q) ≢ s
 
-abbrev pub Found : Checks → Flips → Type 0
-Found s f = Explains s (Unexplained s) f
+abbrev pub Nearest : Checks → Flips → Type 0
+Nearest s f = Explains s (Unexplained s) f
 
 abbrev pub isMore : Flips → Bool
 isMore (One p) = false

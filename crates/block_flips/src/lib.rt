@@ -11,7 +11,7 @@ ghost use mathlib.Core.Logic.{_⊎_};
 ghost use Prim.Native.Nat.{_+_, _-_, _*_, _^_, _≤_, _<_};
 ghost use lib.Bits.{bitXor};
 ghost use lib.Count.{trailingZeros};
-ghost use Rattle.block_flips.specs.Steps.{lowestOf, Explained, OnlyPlace, Tried, Guessed, Found, isMore};
+ghost use Rattle.block_flips.specs.Steps.{lowestOf, Explained, OnlyPlace, Attempted, Guessed, Nearest, isMore};
 use block_code::Checks;
 
 pub enum Flips {
@@ -123,7 +123,7 @@ fn alone(s: Checks) -> usize
 
 // The place p tried as one of the flips.
 fn attempt(s: Checks, p: usize) -> Flips
-    ensures { λ r. ⌜ Tried s p r ⌝ }
+    ensures { λ r. ⌜ Attempted s p r ⌝ }
 {
     if p < PLACES {
         let rest = block_code::mix(s, block_code::of_place(p));
@@ -174,7 +174,7 @@ fn is_more(f: Flips) -> bool
 // The flips that explain a syndrome in which some check is set, where there are not more than two. A loop over the two guesses, for there
 // `attempt` is compiled in place: two calls of it cost more.
 pub fn nearest(s: Checks) -> Flips
-    ensures { λ f. ⌜ Found s f ⌝ }
+    ensures { λ f. ⌜ Nearest s f ⌝ }
 {
     let places = [chosen(s), lowest(s)];
     let mut k: usize = 0;

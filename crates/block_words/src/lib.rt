@@ -6,7 +6,7 @@ ghost use Prim.Native.Nat.{_*_, _^_, _≤_, _<_};
 ghost use lib.Bits.{bitXor};
 ghost use lib.ListN.{length};
 ghost use lib.Seq.{sets, paste};
-ghost use Rattle.words.specs.Fields.{fields, joined};
+ghost use Rattle.words.specs.Digits.{digits, joined};
 ghost use Rattle.block_code.specs.Code.{codeword};
 ghost use Rattle.block_code.specs.Checks.{noChecks, heldBy, checkWords, syndromeOf};
 use block_code::Checks;
@@ -49,7 +49,7 @@ fn hold(words: &mut [u16], k: Checks)
 
 // The block of 32 data words, into 38 words; where either length is another, nothing is written.
 pub fn write(values: &[u16], words: &mut [u16])
-    ensures { λ r. ⌜ ((length (now (values .entry)) ≡ 32) × (length (now (words .entry)) ≡ 38) → now (words .exit) ≡ fields 16 38 (codeword (joined 16 (now (values .entry))))) ⌝ }
+    ensures { λ r. ⌜ ((length (now (values .entry)) ≡ 32) × (length (now (words .entry)) ≡ 38) → now (words .exit) ≡ digits 16 38 (codeword (joined 16 (now (values .entry))))) ⌝ }
     ensures otherwise { λ r. ⌜ (¬ ((length (now (values .entry)) ≡ 32) × (length (now (words .entry)) ≡ 38)) → now (words .exit) ≡ now (words .entry)) ⌝ }
 {
     if values.len() != 32 {

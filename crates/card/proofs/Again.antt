@@ -5,9 +5,9 @@ use mathlib.Core.List.{List, [], _∷_, _++_, map, map-append}
 use Prim.Native.Nat.{ℕ, _+_, _*_, _^_}
 use native.Mathlib.Omega.{arith}
 use lib.ListN.{length, length-append, length-map}
-use Rattle.words.specs.Fields.{fields}
+use Rattle.words.specs.Digits.{digits}
 use Rattle.words.specs.Bytes.{bytesOf}
-use Rattle.words.proofs.Fields.{length-fields}
+use Rattle.words.proofs.Digits.{length-digits}
 use Rattle.words.proofs.Lists.{map-twice}
 use Rattle.words.proofs.Bytes.{length-bytes, below-map}
 use Rattle.codes.specs.Verdict.{flipsOf, scrubbed}
@@ -89,7 +89,7 @@ grids-long ws = omega (arith, length-bytes 8 ws)
 
 block-long : (w : ℕ) → length (partBytes (block w)) ≡ 79
 unfolding partBytes
-block-long w = value-long (fields 16 38 w) (length-fields 16 38 w)
+block-long w = value-long (digits 16 38 w) (length-digits 16 38 w)
   where
     value-long : (ws : List ℕ) → length ws ≡ 38 → length (head 3 76 ++ bytesOf 2 ws) ≡ 79
     value-long ws e = omega (arith, e, length-bytes 2 ws)

@@ -10,7 +10,7 @@ use lib.ListN.{length, getD, replicate, length-map, length-replicate, getD-repli
 use lib.Seq.{ext-getD}
 use borrow.Author.Tests.{leb-true, le-leb}
 use Rattle.words.specs.Word.{dist}
-use Rattle.words.specs.Fields.{Below}
+use Rattle.words.specs.Digits.{Below}
 use Rattle.words.specs.Bytes.{laid}
 use Rattle.words.proofs.Bytes.{below-map}
 use Rattle.words.proofs.Lists.{map-getD}

@@ -7,7 +7,7 @@ use mathlib.Core.List.{List}
 use Prim.Native.Nat.{ℕ, _+_, _*_, _≤_, _<_}
 use lib.ListN.{length, getD, take, drop, replicate}
 use Rattle.words.specs.Word.{dist}
-use Rattle.words.specs.Fields.{Below}
+use Rattle.words.specs.Digits.{Below}
 use Rattle.words.specs.Bytes.{laid}
 use Rattle.grid_code.specs.Code.{codeword}
 use Rattle.page.specs.Promises as page

@@ -18,7 +18,7 @@ pub enum ReadAnswer {
 }
 
 // The grids of the data fields at the front of a slice, up to the end field.
-fn fields(rest: &[u8], numbers: &mut [u16], flips: &mut [u8])
+fn read_fields(rest: &[u8], numbers: &mut [u16], flips: &mut [u8])
     requires { ⌜ ReadsFields (now rest) (now numbers) (now flips) ⌝ }
     ensures { λ r. ⌜ ReadsGrids (now (rest .entry)) (now (numbers .entry)) (now (flips .entry)) (now (numbers .exit)) (now (flips .exit)) ⌝ }
 {
@@ -27,10 +27,10 @@ fn fields(rest: &[u8], numbers: &mut [u16], flips: &mut [u8])
             let end = fields::HEAD + n;
             let k = n / 8;
             value_read::grids(&rest[3..end], numbers, flips);
-            fields(&rest[end..], &mut numbers[k..], &mut flips[k..]);
+            read_fields(&rest[end..], &mut numbers[k..], &mut flips[k..]);
         }
         Field::Block => {
-            fields(&rest[79..], numbers, flips);
+            read_fields(&rest[79..], numbers, flips);
         }
         _ => {}
     }
@@ -56,7 +56,7 @@ pub fn read(image: &[u8], title: &mut [u8], numbers: &mut [u16], flips: &mut [u8
             }
             values::copy(name, title);
             let end = fields::HEAD + name.len();
-            fields(&image[end..], numbers, flips);
+            read_fields(&image[end..], numbers, flips);
             ReadAnswer::Done {
                 title: name.len(),
                 grids,

@@ -5,7 +5,7 @@ use Prim.Native.Nat.{ℕ, _+_, _-_, _*_, _/_, _%_, _≤_}
 use native.Mathlib.Omega.{arith}
 use lib.ListN.{length, take, drop, length-append, length-map, length-drop, drop-of-length-le}
 use lib.Seq.{take-at, drop-at, drop-drop, length-take-le}
-use Rattle.words.specs.Fields.{fields, joined, Below}
+use Rattle.words.specs.Digits.{digits, joined, Below}
 use Rattle.words.specs.Bytes.{wordsIn, bytesOf}
 use Rattle.words.proofs.Lists.{part-behind}
 use Rattle.words.proofs.Bytes.{length-words}
@@ -141,10 +141,10 @@ module _ (s part v e : List ℕ) (r : Blocks) (t : Tallies) (b : Below 8 s) (f :
     after = λ left at ps w.
         let front = block-front at s ps left f w in
         let rest = there .after (less left) (at + 79) (front .behind) (front .found) in
-        let new = fields 16 38 (scrubbed blockCode (joined 16 (wordsIn 2 38 (value s)))) in
+        let new = digits 16 38 (scrubbed blockCode (joined 16 (wordsIn 2 38 (value s)))) in
         ap₂ {C = List ℕ} (λ (a b : List ℕ). a ++ b)
         (ap₂ {C = List ℕ} (λ (a b : List ℕ). a ++ b) (head-is 3 76 s b (known s f))
-        (here .after ∙ ap (λ p. bytesOf 2 (fields 16 38 (scrubbed blockCode (joined 16 (wordsIn 2 38 p))))) is)) rest
+        (here .after ∙ ap (λ p. bytesOf 2 (digits 16 38 (scrubbed blockCode (joined 16 (wordsIn 2 38 p))))) is)) rest
         ∙ sym (append-assoc (head 3 76 ++ bytesOf 2 new) (partsBytes (map scrubbedPart (front .behind))) (head 127 0))
         ∙ ap (λ ps. partsBytes (map scrubbedPart ps) ++ head 127 0) (sym (front .is));
   }

@@ -46,7 +46,7 @@ fn with_block(here: Blocks, there: Tallies) -> Tallies
 }
 
 // The data fields at the front of a slice, up to the end field.
-fn fields(rest: &mut [u8]) -> Tallies
+fn scrub_fields(rest: &mut [u8]) -> Tallies
     requires { ⌜ Walks (now rest) ⌝ }
     ensures { λ r. ⌜ ScrubbedFields (now (rest .entry)) r (now (rest .exit)) ⌝ }
 {
@@ -54,7 +54,7 @@ fn fields(rest: &mut [u8]) -> Tallies
         Field::Grids(n) => {
             let end = fields::HEAD + n;
             let here = value_scrub::grids(&mut rest[3..end]);
-            let there = fields(&mut rest[end..]);
+            let there = scrub_fields(&mut rest[end..]);
             let grids = there.grids;
             let blocks = there.blocks;
             Tallies {
@@ -64,7 +64,7 @@ fn fields(rest: &mut [u8]) -> Tallies
         }
         Field::Block => {
             let here = value_scrub::block(&mut rest[3..79]);
-            let there = fields(&mut rest[79..]);
+            let there = scrub_fields(&mut rest[79..]);
             with_block(here, there)
         }
         _ => Tallies {
@@ -87,7 +87,7 @@ pub fn scrub(image: &mut [u8]) -> ScrubAnswer
         } => {
             let title = image::title(image).len();
             let end = fields::HEAD + title;
-            ScrubAnswer::Done(fields(&mut image[end..]))
+            ScrubAnswer::Done(scrub_fields(&mut image[end..]))
         }
     }
 }

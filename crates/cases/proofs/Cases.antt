@@ -7,9 +7,9 @@ use lib.Bits.{bitXor}
 use lib.Count.{ones}
 use lib.Dec.{T, ltb, leb, eqb, ltb→lt, leb→le, eqb→eq, lit<, lit≤}
 use Rattle.words.specs.Word.{dist, sumTo}
-use Rattle.words.specs.Fields.{fields}
+use Rattle.words.specs.Digits.{digits}
 use Rattle.words.proofs.Dist.{dist-sym}
-use Rattle.words.proofs.Fields.{dist-fields}
+use Rattle.words.proofs.Digits.{dist-digits}
 use Rattle.words.proofs.Test.{both-left, both-right, every}
 use Rattle.words.proofs.Xor.{xor-cancel-l}
 use Rattle.codes.specs.Verdict.{clean, mended, lost, off, answered, verdict}
@@ -21,7 +21,7 @@ use Rattle.grid_code.proofs.Codeword.{is-codeword}
 use Rattle.grid_code.proofs.Distance.{codeword-lt, distance}
 use Rattle.grid_code.proofs.Promises.{promised}
 use Rattle.block_code.specs.Equations as blocks
-use Rattle.block_code.specs.Code.{odd, stacked, rowsOf, columnsOf, behind, blockCode, codeword as blockOf}
+use Rattle.block_code.specs.Code.{odd, stacked, rowsOf, columnsOf, withChecks, blockCode, codeword as blockOf}
 use Rattle.block_code.proofs.Promises.{promised as block-promised}
 use Rattle.block_code.proofs.Places.{system-columns}
 use Rattle.cases.specs.Cases.{Case, ofGrid, read, distant, ofBlock, cases, Says, Hold}
@@ -39,8 +39,8 @@ distant? w d n = ltb w (2 ^ 64) && (ltb d (2 ^ 16) && eqb (apart w d) n)
 -- the block of d, with the system parity over the columns: 16 places to count and not 32
 block : ℕ → ℕ
 block d =
-    behind d (rowsOf (fields 16 32 d)) (columnsOf (fields 16 32 d))
-    (bitXor (stacked 1 (λ x. x) (fields 16 32 d)) (odd (columnsOf (fields 16 32 d)) * 2 ^ 47))
+    withChecks d (rowsOf (digits 16 32 d)) (columnsOf (digits 16 32 d))
+    (bitXor (stacked 1 (λ x. x) (digits 16 32 d)) (odd (columnsOf (digits 16 32 d)) * 2 ^ 47))
 
 right? : Case → Bool
 right? (ofGrid d g) = ltb d (2 ^ 16) && eqb (codeword d) g
@@ -55,7 +55,7 @@ right? (ofBlock d w) = ltb d (2 ^ 512) && eqb (block d) w
 
 counted : (w d : ℕ) → w < 2 ^ 64 → d < 2 ^ 16 → off gridCode w d ≡ apart w d
 unfolding apart
-counted w d l h = dist-fields 8 8 w (codeword d) l (codeword-lt d h)
+counted w d l h = dist-digits 8 8 w (codeword d) l (codeword-lt d h)
 
 distance-is : (w d n : ℕ) → T (distant? w d n) → (d < 2 ^ 16) × (off gridCode w d ≡ n)
 unfolding distant?
@@ -80,7 +80,7 @@ far w t =
 same-block : (d : ℕ) → d < 2 ^ 512 → blockOf d ≡ block d
 unfolding blockOf block
 same-block d h =
-    ap (λ (x : ℕ). behind d (rowsOf (fields 16 32 d)) (columnsOf (fields 16 32 d)) (bitXor (stacked 1 (λ x. x) (fields 16 32 d)) (x * 2 ^ 47)))
+    ap (λ (x : ℕ). withChecks d (rowsOf (digits 16 32 d)) (columnsOf (digits 16 32 d)) (bitXor (stacked 1 (λ x. x) (digits 16 32 d)) (x * 2 ^ 47)))
     (system-columns d h)
 
 right : (c : Case) → T (right? c) → Says c

@@ -2,8 +2,8 @@
 use mathlib.Core.Path.{_≡_, ap, _∙_}
 use mathlib.Core.List.{List}
 use Prim.Native.Nat.{ℕ, _^_, _<_}
-use Rattle.words.specs.Fields.{fields, joined}
-use Rattle.words.proofs.Fields.{joined-fields}
+use Rattle.words.specs.Digits.{digits, joined}
+use Rattle.words.proofs.Digits.{joined-digits}
 use Rattle.codes.specs.Verdict.{verdict, scrubbed}
 use Rattle.codes.proofs.Tally.{scrubbed-lt}
 use Rattle.grid_code.specs.Code.{gridCode}
@@ -13,15 +13,15 @@ use Rattle.grid.specs.Answer.{means}
 use Rattle.grid.specs.Calls.{Decoded}
 use Rattle.grid.specs.declared.Answer.{Answer}
 
-pub decoded-verdict : (w : ℕ) (rows : List ℕ) (a : Answer) → w < 2 ^ 64 → rows ≡ fields 8 8 w → Decoded rows a → means (a .verdict) ≡ verdict gridCode w
-decoded-verdict w rows a l e d = d .answer ∙ ap (verdict gridCode) (ap (joined 8) e ∙ joined-fields 8 8 w l)
+pub decoded-verdict : (w : ℕ) (rows : List ℕ) (a : Answer) → w < 2 ^ 64 → rows ≡ digits 8 8 w → Decoded rows a → means (a .verdict) ≡ verdict gridCode w
+decoded-verdict w rows a l e d = d .answer ∙ ap (verdict gridCode) (ap (joined 8) e ∙ joined-digits 8 8 w l)
 
-pub scrubbed-number : (w : ℕ) → w < 2 ^ 64 → joined 8 (fields 8 8 (scrubbed gridCode w)) ≡ scrubbed gridCode w
+pub scrubbed-number : (w : ℕ) → w < 2 ^ 64 → joined 8 (digits 8 8 (scrubbed gridCode w)) ≡ scrubbed gridCode w
 scrubbed-number w l =
-    joined-fields 8 8 (scrubbed gridCode w) (scrubbed-lt gridCode (promised .verdicts) (2 ^ 64) codeword-lt w l)
+    joined-digits 8 8 (scrubbed gridCode w) (scrubbed-lt gridCode (promised .verdicts) (2 ^ 64) codeword-lt w l)
 
-pub decoded-number : (w n : ℕ) (rows : List ℕ) (a : Answer) → w < 2 ^ 64 → rows ≡ fields 8 8 w → Decoded rows a → n ≡ joined 8 (a .grid .rows)
+pub decoded-number : (w n : ℕ) (rows : List ℕ) (a : Answer) → w < 2 ^ 64 → rows ≡ digits 8 8 w → Decoded rows a → n ≡ joined 8 (a .grid .rows)
     → n ≡ scrubbed gridCode w
 decoded-number w n rows a l e d p =
-    p ∙ ap (joined 8) (d .repaired ∙ ap (λ (x : ℕ). fields 8 8 (scrubbed gridCode x)) (ap (joined 8) e ∙ joined-fields 8 8 w l))
+    p ∙ ap (joined 8) (d .repaired ∙ ap (λ (x : ℕ). digits 8 8 (scrubbed gridCode x)) (ap (joined 8) e ∙ joined-digits 8 8 w l))
     ∙ scrubbed-number w l

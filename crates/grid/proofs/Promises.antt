@@ -8,8 +8,8 @@ use lib.Count.{ones}
 use lib.Dec.{eqb}
 use lib.ListN.{length, getD}
 use Rattle.words.specs.Word.{dist}
-use Rattle.words.specs.Fields.{fields, joined}
-use Rattle.words.proofs.Fields.{joined-lt, joined-fields, fields-joined}
+use Rattle.words.specs.Digits.{digits, joined}
+use Rattle.words.proofs.Digits.{joined-lt, joined-digits, digits-joined}
 use Rattle.codes.specs.Verdict.{Verdict, clean, mended, lost, answered, verdict, flipsOf, refusal, repaired, scrubbed}
 use Rattle.codes.specs.Promises.{Demand3}
 use Rattle.codes.specs.Tally.{isClean}
@@ -31,8 +31,8 @@ module _ (rows : List ℕ) (r : Answer) (h : Decoded rows r) where
   as-read : length rows ≡ 8 → ((i : ℕ) → getD rows i 0 < 2 ^ 8) → numberOf (r .verdict) ≢ 0 → r .grid .rows ≡ rows
   as-read n small refused =
       h .repaired
-      ∙ ap (fields 8 8) (as-it-was gridCode 1 (joined 8 rows) (verdict gridCode (joined 8 rows)) (λ z. refused (ap (refusal 1) (h .answer) ∙ z)))
-      ∙ fields-joined 8 8 rows n small
+      ∙ ap (digits 8 8) (as-it-was gridCode 1 (joined 8 rows) (verdict gridCode (joined 8 rows)) (λ z. refused (ap (refusal 1) (h .answer) ∙ z)))
+      ∙ digits-joined 8 8 rows n small
 
   changed : length rows ≡ 8 → ((i : ℕ) → getD rows i 0 < 2 ^ 8)
       → flipsOf (means (r .verdict)) ≡ dist (joined 8 rows) (joined 8 (r .grid .rows))
@@ -45,23 +45,23 @@ module _ (rows : List ℕ) (r : Answer) (h : Decoded rows r) where
 
   -- the rows are those of a word whose verdict is known
   of-word : (w : ℕ) (v : Verdict) → joined 8 rows ≡ w → verdict gridCode w ≡ v
-      → (means (r .verdict) ≡ v) × (r .grid .rows ≡ fields 8 8 (repaired gridCode w v))
+      → (means (r .verdict) ≡ v) × (r .grid .rows ≡ digits 8 8 (repaired gridCode w v))
   of-word w v e p = (
     h .answer ∙ ap (verdict gridCode) e ∙ p,
-    h .repaired ∙ ap (λ (x : ℕ). fields 8 8 (scrubbed gridCode x)) e ∙ ap (λ x. fields 8 8 (repaired gridCode w x)) p,
+    h .repaired ∙ ap (λ (x : ℕ). digits 8 8 (scrubbed gridCode x)) e ∙ ap (λ x. digits 8 8 (repaired gridCode w x)) p,
   )
 
 -- a pattern of flips on a written grid
-flipped : (d p : ℕ) → d < 2 ^ 16 → p < 2 ^ 64 → joined 8 (fields 8 8 (bitXor (codeword d) p)) ≡ bitXor (codeword d) p
-flipped d p l h = joined-fields 8 8 (bitXor (codeword d) p) (xor-lt 64 (codeword d) p (codeword-lt d l) h)
+flipped : (d p : ℕ) → d < 2 ^ 16 → p < 2 ^ 64 → joined 8 (digits 8 8 (bitXor (codeword d) p)) ≡ bitXor (codeword d) p
+flipped d p l h = joined-digits 8 8 (bitXor (codeword d) p) (xor-lt 64 (codeword d) p (codeword-lt d l) h)
 
-undone : (d p : ℕ) (r : Answer) → d < 2 ^ 16 → p < 2 ^ 64 → ones p ≤ 7 → Decoded (fields 8 8 (bitXor (codeword d) p)) r
-    → (means (r .verdict) ≡ answered d (ones p)) × (r .grid .rows ≡ fields 8 8 (codeword d))
+undone : (d p : ℕ) (r : Answer) → d < 2 ^ 16 → p < 2 ^ 64 → ones p ≤ 7 → Decoded (digits 8 8 (bitXor (codeword d) p)) r
+    → (means (r .verdict) ≡ answered d (ones p)) × (r .grid .rows ≡ digits 8 8 (codeword d))
 undone d p r l k few h =
     let (v, g) =
-    of-word (fields 8 8 (bitXor (codeword d) p)) r h (bitXor (codeword d) p) (answered d (ones p)) (flipped d p l k)
+    of-word (digits 8 8 (bitXor (codeword d) p)) r h (bitXor (codeword d) p) (answered d (ones p)) (flipped d p l k)
     (promised .verdicts .undone d p l few) in
-    (v, g ∙ ap (fields 8 8) (answered-repaired gridCode (bitXor (codeword d) p) d (ones p)))
+    (v, g ∙ ap (digits 8 8) (answered-repaired gridCode (bitXor (codeword d) p) d (ones p)))
 
 -- ---- no second outcome
 
@@ -93,12 +93,12 @@ decode-promised = record {
   changed = λ rows r n small h. changed rows r h n small;
   as-read = λ rows r n small h refused. as-read rows r h n small refused;
   encoded = λ d rows r l e h.
-      let (v, g) = of-word rows r h (codeword d) (clean d) (ap (joined 8) (e .answer) ∙ joined-fields 8 8 (codeword d) (codeword-lt d l)) (promised .verdicts .unharmed d l) in
+      let (v, g) = of-word rows r h (codeword d) (clean d) (ap (joined 8) (e .answer) ∙ joined-digits 8 8 (codeword d) (codeword-lt d l)) (promised .verdicts .unharmed d l) in
       (v, g ∙ sym (e .answer));
   undone = undone;
   eight = λ d p r l k e h.
       let (v, g) =
-      of-word (fields 8 8 (bitXor (codeword d) p)) r h (bitXor (codeword d) p) lost (flipped d p l k) (promised .eight-are-lost d p l e) in
+      of-word (digits 8 8 (bitXor (codeword d) p)) r h (bitXor (codeword d) p) lost (flipped d p l k) (promised .eight-are-lost d p l e) in
       (v, ap (refusal 1) v, g);
 }
 

@@ -11,7 +11,7 @@ use lib.Dec.{eqb, lit<}
 use lib.ListN.{length}
 use borrow.Author.Tests.{eq-eqb, ne-eqb, eqb-true}
 use Rattle.words.specs.Word.{dist}
-use Rattle.words.specs.Fields.{fields, joined, Below}
+use Rattle.words.specs.Digits.{digits, joined, Below}
 use Rattle.words.proofs.Bit.{and-twice}
 use Rattle.codes.specs.Verdict.{Verdict, clean, mended, lost, answered, verdict, repaired, scrubbed}
 use Rattle.codes.specs.Tally.{isClean}
@@ -45,7 +45,7 @@ judged-clean rows j =
     clean-of (verdict gridCode (joined 8 rows)) (eqb-true (isClean (verdict gridCode (joined 8 rows))) 1 (sym (j .answer)))
 
 module _ (rows : List ℕ) (eight : length rows ≡ 8) (small : Below 8 rows) (word : ℕ) (is : word ≡ joined 8 rows) where
-  as-read : fields 8 8 (joined 8 rows) ≡ rows
+  as-read : digits 8 8 (joined 8 rows) ≡ rows
   as-read = promised .back-and-there rows eight small
 
   -- ---- clean
@@ -78,7 +78,7 @@ module _ (rows : List ℕ) (eight : length rows ≡ 8) (small : Below 8 rows) (w
       let (b, w) = clean-word gridCode (promised .verdicts) (joined 8 rows) d p in
       record {
         answer = ap clean (taken-data word places e l taken read d b (is ∙ w)) ∙ sym p;
-        repaired = sym as-read ∙ ap (fields 8 8) (w ∙ sym (ap (repaired gridCode (joined 8 rows)) p));
+        repaired = sym as-read ∙ ap (digits 8 8) (w ∙ sym (ap (repaired gridCode (joined 8 rows)) p));
       }
 
   -- ---- by the trials
@@ -94,7 +94,7 @@ module _ (rows : List ℕ) (eight : length rows ≡ 8) (small : Below 8 rows) (w
 
     module _ (places e : ℕ) (l : e < 2 ^ 16) (taken : places ≡ bitAnd near 0x0F0F_0F0F)
         (read : bitAnd places 0x0F0F_0F0F ≡ places → bitAnd (codeword e) 0x0F0F_0F0F ≡ places) (r : flips ≤ 7) (out : List ℕ)
-        (o : out ≡ fields 8 8 near) where
+        (o : out ≡ digits 8 8 near) where
       answered-is : verdict gridCode (joined 8 rows) ≡ answered e flips
       answered-is =
           let d : ℕ = nearby .reached .value in
@@ -103,10 +103,10 @@ module _ (rows : List ℕ) (eight : length rows ≡ 8) (small : Below 8 rows) (w
 
       -- whether clean or mended, what is written is the codeword
       written : (v : Verdict) → verdict gridCode (joined 8 rows) ≡ v → repaired gridCode (joined 8 rows) v ≡ codeword e
-          → out ≡ fields 8 8 (scrubbed gridCode (joined 8 rows))
+          → out ≡ digits 8 8 (scrubbed gridCode (joined 8 rows))
       written v p q =
           o
-          ∙ ap (fields 8 8)
+          ∙ ap (digits 8 8)
           (nearby .reached .is
           ∙ sym (ap codeword (taken-data near places e l taken read (nearby .reached .value) (nearby .reached .below) (nearby .reached .is)))
           ∙ sym q ∙ sym (ap (repaired gridCode (joined 8 rows)) p))
@@ -125,7 +125,7 @@ module _ (rows : List ℕ) (eight : length rows ≡ 8) (small : Below 8 rows) (w
     is-lost far =
         let v : verdict gridCode (joined 8 rows) ≡ lost =
         none-near gridCode (joined 8 rows) (λ d l. each d l (decLe 8 (dist (joined 8 rows) (codeword d)))) in
-        record { answer = sym v; repaired = sym as-read ∙ sym (ap (λ x. fields 8 8 (repaired gridCode (joined 8 rows) x)) v) }
+        record { answer = sym v; repaired = sym as-read ∙ sym (ap (λ x. digits 8 8 (repaired gridCode (joined 8 rows) x)) v) }
       where
         each : (d : ℕ) → d < 2 ^ 16 → Dec (8 ≤ dist (joined 8 rows) (codeword d)) → 7 < dist (joined 8 rows) (codeword d)
         each d l (yes h) = h

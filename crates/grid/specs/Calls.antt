@@ -4,7 +4,7 @@ use mathlib.Core.Bool.{Bool}
 use mathlib.Core.List.{List}
 use Prim.Native.Nat.{ℕ}
 use lib.Dec.{eqb}
-use Rattle.words.specs.Fields.{fields, joined}
+use Rattle.words.specs.Digits.{digits, joined}
 use Rattle.codes.specs.Verdict.{verdict, scrubbed}
 use Rattle.codes.specs.Tally.{isClean}
 use Rattle.grid_code.specs.Equations.{Codeword}
@@ -14,7 +14,7 @@ use Rattle.grid.specs.declared.Answer.{Answer}
 
 -- `Grid::encode`: the rows of the grid of d, which meets the equations.
 pub record Encoded (d : ℕ) (rows : List ℕ) : Type 0 where
-  pub answer : rows ≡ fields 8 8 (codeword d)
+  pub answer : rows ≡ digits 8 8 (codeword d)
   pub meets : Codeword d (joined 8 rows)
 
 -- `Grid::number`: row r is byte r, lowest byte first.
@@ -23,7 +23,7 @@ pub record Numbered (rows : List ℕ) (w : ℕ) : Type 0 where
 
 -- `Grid::of_number`: the same, back.
 pub record Parted (w : ℕ) (rows : List ℕ) : Type 0 where
-  pub answer : rows ≡ fields 8 8 w
+  pub answer : rows ≡ digits 8 8 w
 
 -- `Grid::is_clean`: whether the verdict on the grid is clean.
 pub record Judged (rows : List ℕ) (r : Bool) : Type 0 where
@@ -32,4 +32,4 @@ pub record Judged (rows : List ℕ) (r : Bool) : Type 0 where
 -- `Grid::decode` and `Grid::mend`: document 01's verdict on the grid, and beside it the codeword, or on refusal the grid as read.
 pub record Decoded (rows : List ℕ) (r : Answer) : Type 0 where
   pub answer : means (r .verdict) ≡ verdict gridCode (joined 8 rows)
-  pub repaired : r .grid .rows ≡ fields 8 8 (scrubbed gridCode (joined 8 rows))
+  pub repaired : r .grid .rows ≡ digits 8 8 (scrubbed gridCode (joined 8 rows))

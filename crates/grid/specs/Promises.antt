@@ -9,7 +9,7 @@ use lib.Bits.{bitXor}
 use lib.Count.{ones}
 use lib.ListN.{length}
 use Rattle.words.specs.Word.{dist}
-use Rattle.words.specs.Fields.{fields, joined, Below}
+use Rattle.words.specs.Digits.{digits, joined, Below}
 use Rattle.codes.specs.Verdict.{Verdict, clean, lost, IsVerdict, Tie, answered, flipsOf}
 use Rattle.codes.specs.Promises.{Demand3}
 use Rattle.grid_code.specs.Code.{codeword, gridCode}
@@ -39,11 +39,11 @@ pub record DecodePromises : Type 0 where
   pub encoded : (d : ℕ) (rows : List ℕ) (r : Answer) → d < 2 ^ 16 → Encoded d rows → Decoded rows r
       → (means (r .verdict) ≡ clean d) × (r .grid .rows ≡ rows)
   -- Up to seven flips of a written grid, checks included, are undone, with the right data and count.
-  pub undone : (d p : ℕ) (r : Answer) → d < 2 ^ 16 → p < 2 ^ 64 → ones p ≤ 7 → Decoded (fields 8 8 (bitXor (codeword d) p)) r
-      → (means (r .verdict) ≡ answered d (ones p)) × (r .grid .rows ≡ fields 8 8 (codeword d))
+  pub undone : (d p : ℕ) (r : Answer) → d < 2 ^ 16 → p < 2 ^ 64 → ones p ≤ 7 → Decoded (digits 8 8 (bitXor (codeword d) p)) r
+      → (means (r .verdict) ≡ answered d (ones p)) × (r .grid .rows ≡ digits 8 8 (codeword d))
   -- Eight are always lost, and the grid stays as read.
-  pub eight : (d p : ℕ) (r : Answer) → d < 2 ^ 16 → p < 2 ^ 64 → ones p ≡ 8 → Decoded (fields 8 8 (bitXor (codeword d) p)) r
-      → (means (r .verdict) ≡ lost) × (numberOf (r .verdict) ≡ 1) × (r .grid .rows ≡ fields 8 8 (bitXor (codeword d) p))
+  pub eight : (d p : ℕ) (r : Answer) → d < 2 ^ 16 → p < 2 ^ 64 → ones p ≡ 8 → Decoded (digits 8 8 (bitXor (codeword d) p)) r
+      → (means (r .verdict) ≡ lost) × (numberOf (r .verdict) ≡ 1) × (r .grid .rows ≡ digits 8 8 (bitXor (codeword d) p))
 
 -- What `Grid::is_clean` promises: of codewords, and of nothing else, it says that they are clean.
 pub record CleanPromises : Type 0 where

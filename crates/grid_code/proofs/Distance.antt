@@ -7,10 +7,10 @@ use lib.Bits.{bitXor}
 use lib.Dec.{eqb}
 use lib.Seq.{ext-getD}
 use Rattle.words.specs.Word.{bit, dist, combined}
-use Rattle.words.specs.Fields.{fields, joined}
+use Rattle.words.specs.Digits.{digits, joined}
 use Rattle.words.proofs.Bit.{bit-lt, bit-xor}
-use Rattle.words.proofs.Fields.{fields-below, joined-fields, dist-fields}
-use Rattle.words.proofs.Linear.{Linear, none, then, field, combination, combined-differ, agree}
+use Rattle.words.proofs.Digits.{digits-below, joined-digits, dist-digits}
+use Rattle.words.proofs.Linear.{Linear, none, then, digit, combination, combined-differ, agree}
 use Rattle.words.proofs.Test.{allBelow, at-below}
 use Rattle.codes.specs.Product.{InProduct, Same, placesApart}
 use Rattle.codes.specs.Promises.{Distance}
@@ -25,7 +25,7 @@ unfolding codeword
 rows-in d l r h = agree (checks r) none 16 (at-below 8 (λ r. allBelow 16 (λ k. eqb (checks r .at (2 ^ k)) 0)) tt r h) d l
   where
     checks : ℕ → Linear
-    checks r = then (then grids (field 8 8 r)) (combination rowEntries)
+    checks r = then (then grids (digit 8 8 r)) (combination rowEntries)
 
 column-sum : (c a b : ℕ)
     → combined colEntries (λ r. bit (rowOf (codeword (bitXor a b)) r) c)
@@ -33,7 +33,7 @@ column-sum : (c a b : ℕ)
 column-sum c a b =
     combined-differ colEntries (λ r. bit (rowOf (codeword a) r) c) (λ r. bit (rowOf (codeword b) r) c)
     (λ r. bit (rowOf (codeword (bitXor a b)) r) c) (λ r. bit-lt (rowOf (codeword a) r) c) (λ r. bit-lt (rowOf (codeword b) r) c)
-    (λ r. ap (λ (x : ℕ). bit x c) (then grids (field 8 8 r) .sum a b) ∙ bit-xor (rowOf (codeword a) r) (rowOf (codeword b) r) c)
+    (λ r. ap (λ (x : ℕ). bit x c) (then grids (digit 8 8 r) .sum a b) ∙ bit-xor (rowOf (codeword a) r) (rowOf (codeword b) r) c)
 
 cols-in : (d : ℕ) → d < 2 ^ 16 → (c : ℕ) → c < 8 → ByEntries colEntries (λ r. bit (rowOf (codeword d) r) c)
 unfolding codeword
@@ -43,7 +43,7 @@ cols-in d l c h = agree (checks c) none 16 (at-below 8 (λ c. allBelow 16 (λ k.
     checks c = record { at = λ d. combined colEntries (λ r. bit (rowOf (codeword d) r) c); sum = column-sum c }
 
 pub in-product : (d : ℕ) → d < 2 ^ 16 → InProduct sides (rowOf (codeword d))
-in-product d l = record { fits = λ r h. fields-below 8 8 (codeword d) r; rows = rows-in d l; cols = cols-in d l }
+in-product d l = record { fits = λ r h. digits-below 8 8 (codeword d) r; rows = rows-in d l; cols = cols-in d l }
 
 -- ---- the distance
 
@@ -53,9 +53,9 @@ codeword-lt d l = is-codeword d l .fits
 -- words with the same rows are the same
 same-word : (g h : ℕ) → g < 2 ^ 64 → h < 2 ^ 64 → Same 8 (rowOf g) (rowOf h) → g ≡ h
 same-word g h p q s =
-    sym (joined-fields 8 8 g p)
-    ∙ ap (joined 8) (ext-getD 0 (fields 8 8 g) (fields 8 8 h) refl (λ i l. s i l))
-    ∙ joined-fields 8 8 h q
+    sym (joined-digits 8 8 g p)
+    ∙ ap (joined 8) (ext-getD 0 (digits 8 8 g) (digits 8 8 h) refl (λ i l. s i l))
+    ∙ joined-digits 8 8 h q
 
 pub distance : Distance gridCode 16
 distance d e hd he ne =
@@ -67,4 +67,4 @@ distance d e hd he ne =
     go (inl s) =
         absurd (ne (one-value d e (codeword d) hd he (is-codeword d hd)
         (rw (same-word (codeword d) (codeword e) (codeword-lt d hd) (codeword-lt e he) s) (is-codeword e he))))
-    go (inr f) = rw (dist-fields 8 8 (codeword d) (codeword e) (codeword-lt d hd) (codeword-lt e he)) f
+    go (inr f) = rw (dist-digits 8 8 (codeword d) (codeword e) (codeword-lt d hd) (codeword-lt e he)) f

@@ -6,7 +6,7 @@ use native.Mathlib.Omega.{arith}
 use lib.Count.{ones}
 use lib.Dec.{lit<, lit≤}
 use Rattle.words.specs.Word.{bit, dist}
-use Rattle.words.proofs.Fields.{bit-fields, joined-fields, fields-joined, dist-fields}
+use Rattle.words.proofs.Digits.{bit-digits, joined-digits, digits-joined, dist-digits}
 use Rattle.words.proofs.Sum.{sum-eq, sum-bits}
 use Rattle.codes.specs.Promises.{States}
 use Rattle.codes.proofs.Promises.{every-code}
@@ -24,7 +24,7 @@ data-is d g h p =
 -- the grids of 0 and 1
 sixteen-apart : dist (codeword 0) (codeword 1) ≡ 16
 unfolding codeword dist ones
-sixteen-apart = dist-fields 8 8 (codeword 0) (codeword 1) (lit< tt) (lit< tt)
+sixteen-apart = dist-digits 8 8 (codeword 0) (codeword 1) (lit< tt) (lit< tt)
 
 -- two codewords are 16 places apart or more, and some no more
 states : {radius places n : ℕ} → radius ≡ 7 → places ≡ 64 → n ≤ 16 → 16 ≤ n → States gridCode radius places n
@@ -38,9 +38,9 @@ states p q l h = record {
 
 pub promised : GridPromises
 promised = record {
-  places = λ g r c hr hc. sym (bit-fields 8 8 g r c hr hc);
-  there-and-back = joined-fields 8 8;
-  back-and-there = fields-joined 8 8;
+  places = λ g r c hr hc. sym (bit-digits 8 8 g r c hr hc);
+  there-and-back = joined-digits 8 8;
+  back-and-there = digits-joined 8 8;
   meets = is-codeword;
   one-solution = one-solution;
   one-value = one-value;

@@ -4,7 +4,7 @@ use mathlib.Core.List.{List}
 use Prim.Native.Nat.{ℕ, _^_, _<_}
 use lib.ListN.{length, getD}
 use Rattle.words.specs.Word.{bit}
-use Rattle.words.specs.Fields.{fields, joined, Below}
+use Rattle.words.specs.Digits.{digits, joined, Below}
 use Rattle.codes.specs.Promises.{States, Promises, OneMoreIsLost}
 use Rattle.codes.specs.Product.{InProduct}
 use Rattle.grid_code.specs.Equations.{inRow, dataOf, Codeword}
@@ -13,10 +13,10 @@ use Rattle.grid_code.specs.Sides.{sides, rowOf}
 
 pub record GridPromises : Type 0 where
   -- Row r is byte r of the number, lowest byte first, and place c of a row is bit c.
-  pub places : (g r c : ℕ) → r < 8 → c < 8 → bit (getD (fields 8 8 g) r 0) c ≡ inRow g r c
+  pub places : (g r c : ℕ) → r < 8 → c < 8 → bit (getD (digits 8 8 g) r 0) c ≡ inRow g r c
   -- From the number to the rows and back nothing changes, nor from eight rows to the number and back.
-  pub there-and-back : (g : ℕ) → g < 2 ^ 64 → joined 8 (fields 8 8 g) ≡ g
-  pub back-and-there : (rows : List ℕ) → length rows ≡ 8 → Below 8 rows → fields 8 8 (joined 8 rows) ≡ rows
+  pub there-and-back : (g : ℕ) → g < 2 ^ 64 → joined 8 (digits 8 8 g) ≡ g
+  pub back-and-there : (rows : List ℕ) → length rows ≡ 8 → Below 8 rows → digits 8 8 (joined 8 rows) ≡ rows
   -- Demand 2: encoding equals the parity equations, for all 65,536 values.
   pub meets : (d : ℕ) → d < 2 ^ 16 → Codeword d (codeword d)
   -- They have one solution for each value, ..

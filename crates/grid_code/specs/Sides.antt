@@ -5,7 +5,7 @@ use mathlib.Core.List.{List, [], _∷_}
 use Prim.Native.Nat.{ℕ}
 use lib.ListN.{getD}
 use Rattle.words.specs.Word.{combined}
-use Rattle.words.specs.Fields.{fields}
+use Rattle.words.specs.Digits.{digits}
 use Rattle.codes.specs.Product.{Sides}
 
 abbrev pub rowEntries : List ℕ
@@ -19,4 +19,4 @@ sides = record { side = 8; Row = λ f. combined rowEntries f ≡ 0; Col = λ f. 
 
 -- row r of a grid
 abbrev pub rowOf : ℕ → ℕ → ℕ
-rowOf g r = getD (fields 8 8 g) r 0
+rowOf g r = getD (digits 8 8 g) r 0

@@ -6,7 +6,7 @@ use native.Mathlib.Omega.{arith}
 use lib.Count.{ones}
 use lib.Dec.{ltb, ltb→lt, leb, leb→le}
 use lib.ListN.{getD, List·getD-map}
-use Rattle.words.specs.Fields.{Below}
+use Rattle.words.specs.Digits.{Below}
 use Rattle.words.specs.Word.{bit, dist, combined}
 use Rattle.words.proofs.Test.{at-below, same-below}
 use Rattle.codes.specs.Product.{Repair, aside}

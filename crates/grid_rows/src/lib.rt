@@ -5,7 +5,7 @@
 ghost use mathlib.Core.Path.{_≡_};
 ghost use mathlib.Core.List.{map};
 ghost use Prim.Native.Nat.{_+_, _*_, _%_, _^_, _<_};
-ghost use Rattle.words.specs.Fields.{fields, joined};
+ghost use Rattle.words.specs.Digits.{digits, joined};
 ghost use Rattle.grid_rows.specs.Rows.{mendedRow};
 
 // The lowest byte.
@@ -37,7 +37,7 @@ pub fn number(rows: [u8; 8]) -> u64
 
 // .. and the rows of a number.
 pub fn of_number(w: u64) -> [u8; 8]
-    ensures { λ r. ⌜ r ≡ fields 8 8 w ⌝ }
+    ensures { λ r. ⌜ r ≡ digits 8 8 w ⌝ }
 {
     let b = w >> 8;
     let c = b >> 8;

@@ -11,9 +11,9 @@ use lib.Bits.{bitAnd, differ, and-le-r}
 use lib.Dec.{lit<}
 use lib.ListN.{length, getD, length-map}
 use Rattle.words.specs.Word.{bit, dist, combined}
-use Rattle.words.specs.Fields.{joined, Below}
+use Rattle.words.specs.Digits.{joined, Below}
 use Rattle.words.proofs.Bit.{bit-lt, bit-and, bit-low, bit-shr, eq-of-bits}
-use Rattle.words.proofs.Fields.{bit-fields, fields-below, dist-fields}
+use Rattle.words.proofs.Digits.{bit-digits, digits-below, dist-digits}
 use Rattle.words.proofs.Linear.{combined-eq}
 use Rattle.words.proofs.Sum.{sum-eq}
 use Rattle.words.proofs.Test.{same-below}
@@ -51,7 +51,7 @@ same-places s y h =
 
 column-code : (d : ℕ) → d < 2 ^ 16 → (c : ℕ) → c < 8 → combined colEntries (inColumn (codeword d) c) ≡ 0
 column-code d l c h =
-    combined-eq colEntries (inColumn (codeword d) c) (λ r. bit (rowOf (codeword d) r) c) (λ r k. bit-fields 8 8 (codeword d) r c k h)
+    combined-eq colEntries (inColumn (codeword d) c) (λ r. bit (rowOf (codeword d) r) c) (λ r k. bit-digits 8 8 (codeword d) r c k h)
     ∙ in-product d l .cols c h
 
 -- the word read, by its rows
@@ -74,7 +74,7 @@ module _ (rows : List ℕ) (n : length rows ≡ 8) (small : Below 8 rows) where
 module _ (w x : ℕ) (made : Mended w x) where
   module _ (r : ℕ) (h : r < 8) where
     place : (c : ℕ) → c < 8 → bit x (8 * r + c) ≡ bit (mendedRow (rowOf w r)) c
-    place c hc = bit-fields 8 8 x r c h hc ∙ ap (λ (y : ℕ). bit y c) (made r)
+    place c hc = bit-digits 8 8 x r c h hc ∙ ap (λ (y : ℕ). bit y c) (made r)
 
     data-place : (c : ℕ) → c < 4 → inColumn x c r ≡ bit (fixed (rowOf w r)) c
     data-place c hc =
@@ -110,7 +110,7 @@ module _ (w x : ℕ) (made : Mended w x) where
         min (differ (inColumn (bitAnd (x / 2 ^ (3 + t)) 0x0101_0101_0101_0101) 0 r) 1) (differ (inColumn x c r) (inColumn (codeword d) c r)))
         (λ r h.
         sym (ap₂ (λ (y z : ℕ). min (differ y 1) z) (aside-place r h t p l)
-        (ap₂ differ (data-place r h c hc) (bit-fields 8 8 (codeword d) r c h (omega arith))))))
+        (ap₂ differ (data-place r h c hc) (bit-digits 8 8 (codeword d) r c h (omega arith))))))
         (sum-eq 8 (λ r. aside fixed t (rowOf w r)) (inColumn (bitAnd (x / 2 ^ (3 + t)) 0x0101_0101_0101_0101) 0)
         (λ r h. sym (aside-place r h t p l))))
         (candidate-column sides fixed t (rowOf w) (rowOf (codeword d)) cand c);
@@ -142,7 +142,7 @@ both-trials word first m second n fits one far two = record {
   all = λ d l near.
       each d l near
       (every-product sides .trials (distance4 rowEntries tt) (distance4 colEntries tt) fixed repair .two-trials (rowOf word) (rowOf (codeword d))
-      (λ r h. fields-below 8 8 word r) (in-product d l) (subst (λ (x : ℕ). x ≤ 7) (dist-fields 8 8 word (codeword d) fits (codeword-lt d l)) near));
+      (λ r h. digits-below 8 8 word r) (in-product d l) (subst (λ (x : ℕ). x ≤ 7) (dist-digits 8 8 word (codeword d) fits (codeword-lt d l)) near));
 }
   where
     each : (d : ℕ) → d < 2 ^ 16 → dist word (codeword d) ≤ 7

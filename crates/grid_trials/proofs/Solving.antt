@@ -10,8 +10,8 @@ use lib.Dec.{eqb}
 use lib.ListN.{getD}
 use Rattle.words.specs.Word.{choose, bit, combined, sumTo}
 use Rattle.words.proofs.Bit.{by-bit, bit-lt, bit-and, bit-xor, eq-of-bits}
-use Rattle.words.proofs.Fields.{bit-fields, filled}
-use Rattle.words.proofs.Linear.{same, mask, low, then, field, combined-lt, combined-eq, agree}
+use Rattle.words.proofs.Digits.{bit-digits, filled}
+use Rattle.words.proofs.Linear.{same, mask, low, then, digit, combined-lt, combined-eq, agree}
 use Rattle.words.proofs.Sum.{sum-eq}
 use Rattle.words.proofs.Test.{allBelow, at-below, allPairs, same-below, same-pairs}
 use Rattle.codes.proofs.Column.{only, lone, named, odd, at, inside, outside, Perfect, is-odd, one-right, several-right}
@@ -34,7 +34,7 @@ module _ (aside : ℕ) (fits : aside < 2 ^ 64) (p : Asides aside) where
   aside-rows : (r : ℕ) → r < 8 → rowOf aside r ≡ rowOf aside r % 2
   aside-rows r h =
       sym (ap (λ (x : ℕ). rowOf x r) p)
-      ∙ agree (then (mask same 0x0101_0101_0101_0101) (field 8 8 r)) (low (field 8 8 r) 1) 64
+      ∙ agree (then (mask same 0x0101_0101_0101_0101) (digit 8 8 r)) (low (digit 8 8 r) 1) 64
       (at-below 8 (λ r. allBelow 64 (λ k. eqb (rowOf (bitAnd (2 ^ k) 0x0101_0101_0101_0101) r) (rowOf (2 ^ k) r % 2))) tt r h) aside fits
 
   aside-lt : (r : ℕ) → r < 8 → rowOf aside r < 2
@@ -43,11 +43,11 @@ module _ (aside : ℕ) (fits : aside < 2 ^ 64) (p : Asides aside) where
   -- all places of them
   all-places : (c r : ℕ) → c < 8 → r < 8 → inColumn (aside * 255) c r ≡ inColumn aside 0 r
   all-places c r hc hr =
-      bit-fields 8 8 (aside * 255) r c hr hc
+      bit-digits 8 8 (aside * 255) r c hr hc
       ∙ ap (λ (x : ℕ). bit x c) (filled 8 aside aside-lt r hr)
       ∙ by-bit (λ (x : ℕ). bit (x * 255) c ≡ bit x 0) (same-below 8 (bit 0) (λ c. 0) tt c hc) (same-below 8 (bit 255) (λ c. 1) tt c hc)
       (rowOf aside r) (aside-lt r hr)
-      ∙ sym (bit-fields 8 8 aside r 0 hr (omega arith))
+      ∙ sym (bit-digits 8 8 aside r 0 hr (omega arith))
 
   filled-fits : aside * 255 < 2 ^ 64
   filled-fits = omega (arith, sym p, and-le-r aside 0x0101_0101_0101_0101)

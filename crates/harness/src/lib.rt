@@ -1,7 +1,7 @@
 // The library's calls on plain numbers, for the tests and for counting instructions. No part of the product.
 ghost use mathlib.Core.Path.{_≡_};
 ghost use lib.ListN.{getD};
-ghost use Rattle.words.specs.Fields.{fields};
+ghost use Rattle.words.specs.Digits.{digits};
 ghost use Rattle.grid_code.specs.Equations.{Codeword};
 ghost use Rattle.grid.specs.Answer.{means};
 ghost use Rattle.harness.specs.Exports.{packed, Decoding};
@@ -29,7 +29,7 @@ pub extern "C" fn grid_there_and_back(w: u64) -> u64
 // Row `r` of the grid with the number `w`, and 0 where there is no such row.
 #[no_mangle]
 pub extern "C" fn grid_row(w: u64, r: u64) -> u8
-    ensures { λ b. ⌜ b ≡ getD (fields 8 8 w) r 0 ⌝ }
+    ensures { λ b. ⌜ b ≡ getD (digits 8 8 w) r 0 ⌝ }
 {
     let rows = Grid::of_number(w).rows;
     if r < 8 { rows[r as usize] } else { 0 }

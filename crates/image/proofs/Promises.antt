@@ -8,7 +8,7 @@ use native.Mathlib.Omega.{arith}
 use lib.ListN.{length, take, drop, length-append}
 use lib.Seq.{drop-append-seam}
 use borrow.Author.Tests.{le-leb, lt-leb}
-use Rattle.words.specs.Fields.{Below}
+use Rattle.words.specs.Digits.{Below}
 use Rattle.words.proofs.Bytes.{below-drop}
 use Rattle.fields.specs.declared.Field.{Field}
 use Rattle.fields.specs.declared.Field.the-variants.{Title, Grids, Block, End, Fails}
@@ -16,7 +16,7 @@ use Rattle.fields.specs.Fields.{value, behind, fieldOf}
 use Rattle.fields.proofs.Fields.{past-end, known, found-end}
 use Rattle.image.specs.declared.Outcome.{Outcome}
 use Rattle.image.specs.declared.Outcome.the-variants.{Length, Broken}
-use Rattle.image.specs.Card.{Part, Card, Found, sound, broken, before, walk, named, titled, cardOf, head, frontOf, imageOf}
+use Rattle.image.specs.Card.{Part, Card, Found, sound, broken, before, walk, underTitle, titled, cardOf, head, frontOf, imageOf}
 use Rattle.image.specs.Answer.{numberOf, placeOf}
 use Rattle.image.specs.Calls.{byFound, Checked, counts, titleIn}
 use Rattle.image.specs.Promises.{Proper, Break, no-title, fails, repeated, seventeenth, behind-end, ImagePromises, OneOutcome}
@@ -47,14 +47,14 @@ module _ (c : Card) (h : Proper c) where
   -- a break behind the front is the image's
   breaks : (rest : List ℕ) {place : ℕ} → walk (16 - length ps) at rest ≡ broken place → cardOf (frontOf c ++ rest) ≡ broken place
   breaks rest {place} e =
-      card-over c h rest ∙ ap (λ (x : Found (List Part)). named (c .title) (beforeAll ps x)) e ∙ ap (named (c .title)) (all-broken ps place)
+      card-over c h rest ∙ ap (λ (x : Found (List Part)). underTitle (c .title) (beforeAll ps x)) e ∙ ap (underTitle (c .title)) (all-broken ps place)
 
   whole : cardOf (imageOf c) ≡ sound c
   unfolding imageOf
   whole =
       card-over c h (head 127 0)
-      ∙ ap (λ (x : Found (List Part)). named (c .title) (beforeAll ps x)) (walk-end at (head 127 0) (16 - length ps) (end-found []) refl)
-      ∙ ap (named (c .title)) (all-sound ps)
+      ∙ ap (λ (x : Found (List Part)). underTitle (c .title) (beforeAll ps x)) (walk-end at (head 127 0) (16 - length ps) (end-found []) refl)
+      ∙ ap (underTitle (c .title)) (all-sound ps)
 
   more-behind : (b : ℕ) (bytes : List ℕ) → cardOf (imageOf c ++ b ∷ bytes) ≡ broken (length (imageOf c))
   unfolding imageOf
@@ -179,7 +179,7 @@ title-given : (s : List ℕ) (c : Card) → cardOf s ≡ sound c → titleIn s (
 unfolding cardOf
 title-given s c = go (fieldOf s)
   where
-    by-title : (x : Found (List Part)) → named (value s) x ≡ sound c → value s ≡ c .title
+    by-title : (x : Found (List Part)) → underTitle (value s) x ≡ sound c → value s ≡ c .title
     by-title (sound ps) e = cc
     by-title (broken place) e = cc
 

@@ -10,15 +10,15 @@ use lib.Dec.{eqb}
 use lib.ListN.{length, drop, length-append, take-append-drop}
 use lib.Seq.{take-at, drop-at, drop-drop}
 use borrow.Author.Tests.{le-leb, eq-eqb}
-use Rattle.words.specs.Fields.{fields, joined, Below}
+use Rattle.words.specs.Digits.{digits, joined, Below}
 use Rattle.words.specs.Bytes.{wordsIn, bytesOf}
-use Rattle.words.proofs.Fields.{length-fields, fields-below, joined-fields, fields-joined, joined-lt}
+use Rattle.words.proofs.Digits.{length-digits, digits-below, joined-digits, digits-joined, joined-lt}
 use Rattle.words.proofs.Bytes.{length-words, length-bytes, below-take, below-drop, bytes-words, words-bytes, words-below}
 use Rattle.fields.specs.declared.Field.{Field}
 use Rattle.fields.specs.declared.Field.the-variants.{Title, Grids, Block, End, Fails}
 use Rattle.fields.specs.Fields.{size, value, isTitle, isGrids, fieldOf}
 use Rattle.fields.proofs.Fields.{Stands, known, length-value, grids-size, found-title, found-grids, found-block}
-use Rattle.image.specs.Card.{Part, grids, block, Card, Found, gridsAt, blockAt, before, walk, named, cardOf, head, partBytes, partsBytes, frontOf}
+use Rattle.image.specs.Card.{Part, grids, block, Card, Found, gridsAt, blockAt, before, walk, underTitle, cardOf, head, partBytes, partsBytes, frontOf}
 use Rattle.image.specs.Promises.{ProperPart, AllProper, Proper}
 use Rattle.image.proofs.Walking.{walk-grids, walk-block, card-titled}
 
@@ -58,16 +58,16 @@ module _ (left at : ℕ) (rest : List ℕ) where
       → walk (suc left) at (partBytes (block w) ++ rest) ≡ before (block w) (walk left (at + length (partBytes (block w))) rest)
   unfolding partBytes
   block-step w h =
-      let ws : List ℕ = fields 16 38 w in
+      let ws : List ℕ = digits 16 38 w in
       let v : List ℕ = bytesOf 2 ws in
       let s : List ℕ = head 3 76 ++ v ++ rest in
-      let count : length ws ≡ 38 = length-fields 16 38 w in
+      let count : length ws ≡ 38 = length-digits 16 38 w in
       let l : length v ≡ 76 = omega (arith, length-bytes 2 ws) in
       let next : at + 79 ≡ at + length (head 3 76 ++ v) = omega arith in
-      let words : wordsIn 2 38 v ≡ ws = ap (λ (k : ℕ). wordsIn 2 k v) (sym count) ∙ words-bytes 2 ws (fields-below 16 38 w) in
+      let words : wordsIn 2 38 v ≡ ws = ap (λ (k : ℕ). wordsIn 2 k v) (sym count) ∙ words-bytes 2 ws (digits-below 16 38 w) in
       walk-block at s left (found-block s (stands-front 3 76 v rest l))
       ∙ ap (λ (l : List ℕ). before (block (joined 16 (wordsIn 2 38 l))) (walk left (at + 79) (drop 79 s))) (value-front 3 76 v rest l)
-      ∙ ap (λ (k : ℕ). before (block k) (walk left (at + 79) (drop 79 s))) (ap (joined 16) words ∙ joined-fields 16 38 w h)
+      ∙ ap (λ (k : ℕ). before (block k) (walk left (at + 79) (drop 79 s))) (ap (joined 16) words ∙ joined-digits 16 38 w h)
       ∙ ap₂ (λ (k : ℕ) (l : List ℕ). before (block w) (walk left k l)) next (drop-front 3 76 v rest l)
 
   part-step : (p : Part) → ProperPart p
@@ -98,7 +98,7 @@ walk-over (p ∷ ps) h (suc all) left at rest e =
 
 -- the whole front of a card: what is found hangs on what stands behind it
 pub card-over : (c : Card) → Proper c → (rest : List ℕ)
-    → cardOf (frontOf c ++ rest) ≡ named (c .title) (beforeAll (c .parts) (walk (16 - length (c .parts)) (length (frontOf c)) rest))
+    → cardOf (frontOf c ++ rest) ≡ underTitle (c .title) (beforeAll (c .parts) (walk (16 - length (c .parts)) (length (frontOf c)) rest))
 unfolding frontOf
 card-over c h rest =
     let v : List ℕ = c .title in
@@ -110,9 +110,9 @@ card-over c h rest =
     let next : 3 + n + length (partsBytes ps) ≡ length (head 1 n ++ v ++ partsBytes ps) = omega (arith, length-append v (partsBytes ps)) in
     ap (λ (l : List ℕ). cardOf (head 1 n ++ l)) (append-assoc v (partsBytes ps) rest)
     ∙ card-titled s n (found-title s n (stands-front 1 n v r refl) (ap isTitle (value-front 1 n v r refl) ∙ h .title))
-    ∙ ap₂ (λ (v r : List ℕ). named v (walk 16 (3 + n) r)) (value-front 1 n v r refl) (drop-front 1 n v r refl)
-    ∙ ap (named v) (walk-over ps (h .each) 16 (16 - length ps) (3 + n) rest left)
-    ∙ ap (λ (k : ℕ). named v (beforeAll ps (walk (16 - length ps) k rest))) next
+    ∙ ap₂ (λ (v r : List ℕ). underTitle v (walk 16 (3 + n) r)) (value-front 1 n v r refl) (drop-front 1 n v r refl)
+    ∙ ap (underTitle v) (walk-over ps (h .each) 16 (16 - length ps) (3 + n) rest left)
+    ∙ ap (λ (k : ℕ). underTitle v (beforeAll ps (walk (16 - length ps) k rest))) next
 
 -- ---- what is found is written
 
@@ -155,8 +155,8 @@ module _ (s : List ℕ) (h : Below 8 s) where
       let l : length v ≡ size s = length-value s (omega arith) in
       let count : length ws ≡ 38 = length-words 2 38 v in
       let below : Below 16 ws = words-below 2 38 v (omega arith) below-value in
-      let bytes : bytesOf 2 (fields 16 38 (joined 16 ws)) ≡ v =
-      ap (bytesOf 2) (fields-joined 16 38 ws count below) ∙ bytes-words 2 38 v (omega arith) below-value in
+      let bytes : bytesOf 2 (digits 16 38 (joined 16 ws)) ≡ v =
+      ap (bytesOf 2) (digits-joined 16 38 ws count below) ∙ bytes-words 2 38 v (omega arith) below-value in
       (joined-lt 16 38 ws count below, split 3 76 s h st ∙ ap (λ (l : List ℕ). head 3 76 ++ l ++ drop 79 s) (sym bytes))
 
 -- the field at the front holds data

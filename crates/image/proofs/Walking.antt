@@ -18,22 +18,22 @@ use Rattle.fields.specs.Fields.{value, fieldOf}
 use Rattle.fields.proofs.Field.{the-type}
 use Rattle.fields.proofs.Fields.{known}
 use Rattle.image.specs.declared.Outcome.the-variants.{Sound, Broken}
-use Rattle.image.specs.Card.{Part, grids, block, Card, Found, sound, broken, gridsIn, blocksIn, gridsAt, blockAt, before, follow, walk, named, titled, cardOf}
+use Rattle.image.specs.Card.{Part, grids, block, Card, Found, sound, broken, gridsIn, blocksIn, gridsAt, blockAt, before, follow, walk, underTitle, titled, cardOf}
 use Rattle.image.specs.Calls.{byFound, counts, titleIn}
-use Rattle.image.specs.Steps.{counted}
+use Rattle.image.specs.Steps.{foundAfter}
 
 -- ---- what is counted
 
-counted-grids : (g b : ℕ) (ws : List ℕ) (x : Found (List Part)) → counted g b (before (grids ws) x) ≡ counted (g + length ws) b x
-counted-grids g b ws (sound ps) =
+after-grids : (g b : ℕ) (ws : List ℕ) (x : Found (List Part)) → foundAfter g b (before (grids ws) x) ≡ foundAfter (g + length ws) b x
+after-grids g b ws (sound ps) =
     let e : g + length (ws ++ gridsIn ps) ≡ g + length ws + length (gridsIn ps) = omega (arith, length-append ws (gridsIn ps)) in
     ap (λ (n : ℕ). Sound n (b + length (blocksIn ps))) e
-counted-grids g b ws (broken at) = refl
+after-grids g b ws (broken at) = refl
 
-counted-block : (g b w : ℕ) (x : Found (List Part)) → counted g b (before (block w) x) ≡ counted g (b + 1) x
-counted-block g b w (sound ps) =
+after-block : (g b w : ℕ) (x : Found (List Part)) → foundAfter g b (before (block w) x) ≡ foundAfter g (b + 1) x
+after-block g b w (sound ps) =
     let e : b + length (w ∷ blocksIn ps) ≡ b + 1 + length (blocksIn ps) = omega arith in ap (Sound (g + length (gridsIn ps))) e
-counted-block g b w (broken at) = refl
+after-block g b w (broken at) = refl
 
 -- ---- one step
 
@@ -83,23 +83,23 @@ module _ (at : ℕ) (s : List ℕ) where
   walk-fails left e = stops (λ go. refl) e left
 
   -- .. counted
-  pub counted-grids-step : (g b left n : ℕ) → fieldOf s ≡ Grids n
-      → counted g b (walk (suc left) at s) ≡ counted (g + n / 8) b (walk left (at + (3 + n)) (drop (3 + n) s))
-  counted-grids-step g b left n e =
-      ap (counted g b) (walk-grids left n e)
-      ∙ counted-grids g b (wordsIn 8 (n / 8) (value s)) (walk left (at + (3 + n)) (drop (3 + n) s))
-      ∙ ap (λ (k : ℕ). counted (g + k) b (walk left (at + (3 + n)) (drop (3 + n) s))) (length-words 8 (n / 8) (value s))
+  pub after-grids-step : (g b left n : ℕ) → fieldOf s ≡ Grids n
+      → foundAfter g b (walk (suc left) at s) ≡ foundAfter (g + n / 8) b (walk left (at + (3 + n)) (drop (3 + n) s))
+  after-grids-step g b left n e =
+      ap (foundAfter g b) (walk-grids left n e)
+      ∙ after-grids g b (wordsIn 8 (n / 8) (value s)) (walk left (at + (3 + n)) (drop (3 + n) s))
+      ∙ ap (λ (k : ℕ). foundAfter (g + k) b (walk left (at + (3 + n)) (drop (3 + n) s))) (length-words 8 (n / 8) (value s))
 
-  pub counted-block-step : (g b left : ℕ) → fieldOf s ≡ Block
-      → counted g b (walk (suc left) at s) ≡ counted g (b + 1) (walk left (at + 79) (drop 79 s))
-  counted-block-step g b left e = ap (counted g b) (walk-block left e) ∙ counted-block g b _ (walk left (at + 79) (drop 79 s))
+  pub after-block-step : (g b left : ℕ) → fieldOf s ≡ Block
+      → foundAfter g b (walk (suc left) at s) ≡ foundAfter g (b + 1) (walk left (at + 79) (drop 79 s))
+  after-block-step g b left e = ap (foundAfter g b) (walk-block left e) ∙ after-block g b _ (walk left (at + 79) (drop 79 s))
 
 -- ---- the whole image
 
-pub card-titled : (s : List ℕ) (n : ℕ) → fieldOf s ≡ Title n → cardOf s ≡ named (value s) (walk 16 (3 + n) (drop (3 + n) s))
+pub card-titled : (s : List ℕ) (n : ℕ) → fieldOf s ≡ Title n → cardOf s ≡ underTitle (value s) (walk 16 (3 + n) (drop (3 + n) s))
 unfolding cardOf
 card-titled s n e =
-    ap (titled s) e ∙ ap (λ (k : ℕ). named (value s) (walk 16 (3 + n) (drop (3 + k) s))) (known s e .0 .size-is)
+    ap (titled s) e ∙ ap (λ (k : ℕ). underTitle (value s) (walk 16 (3 + n) (drop (3 + k) s))) (known s e .0 .size-is)
 
 -- a first field that is no title, as the last arm of a match has it
 pub untitled : (s : List ℕ) (f : Field) → OneOf (1 ∷ 2 ∷ 3 ∷ 4 ∷ []) (tagOf the-type f) → (titled s f ≡ broken 0) × (titleIn s f ≡ [])
@@ -113,7 +113,7 @@ pub card-none : (s : List ℕ) (f : Field) → f ≡ fieldOf s → OneOf (1 ∷ 
 unfolding cardOf
 card-none s f e k = sym (ap (titled s) e) ∙ untitled s f k .0
 
-pub counted-whole : (title : List ℕ) (x : Found (List Part))
-    → byFound Broken (λ (c : Card). counts (c .parts)) (named title x) ≡ counted 0 0 x
-counted-whole title (sound ps) = sym (ap₂ Sound (zero-add (length (gridsIn ps))) (zero-add (length (blocksIn ps))))
-counted-whole title (broken at) = refl
+pub after-whole : (title : List ℕ) (x : Found (List Part))
+    → byFound Broken (λ (c : Card). counts (c .parts)) (underTitle title x) ≡ foundAfter 0 0 x
+after-whole title (sound ps) = sym (ap₂ Sound (zero-add (length (gridsIn ps))) (zero-add (length (blocksIn ps))))
+after-whole title (broken at) = refl

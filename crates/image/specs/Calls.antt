@@ -37,5 +37,5 @@ titleIn image Block = []
 titleIn image End = []
 titleIn image Fails = []
 
-pub record Named (image r : List ℕ) : Type 0 where
+pub record TitleGiven (image r : List ℕ) : Type 0 where
   pub answer : r ≡ titleIn image (fieldOf image)

@@ -4,7 +4,7 @@ use Prim.Native.Nat.{ℕ, zero, suc, _+_, _*_, _/_, _%_}
 use lib.Dec.{eqb}
 use lib.ListN.{length}
 use Rattle.words.specs.Word.{choose}
-use Rattle.words.specs.Fields.{fields, joined}
+use Rattle.words.specs.Digits.{digits, joined}
 use Rattle.words.specs.Bytes.{wordsIn, bytesOf}
 use Rattle.fields.specs.declared.Field.{Field}
 use Rattle.fields.specs.declared.Field.the-variants.{Title, Grids, Block, End, Fails}
@@ -63,13 +63,13 @@ unfoldable pub walk : ℕ → ℕ → List ℕ → Found (List Part)
 walk zero at rest = follow (λ next bytes. broken at) at rest (fieldOf rest)
 walk (suc left) at rest = follow (walk left) at rest (fieldOf rest)
 
-abbrev pub named : List ℕ → Found (List Part) → Found Card
-named title (sound ps) = sound (record { title = title; parts = ps })
-named title (broken at) = broken at
+abbrev pub underTitle : List ℕ → Found (List Part) → Found Card
+underTitle title (sound ps) = sound (record { title = title; parts = ps })
+underTitle title (broken at) = broken at
 
 -- The title comes first; then at most 16 data fields.
 abbrev pub titled : List ℕ → Field → Found Card
-titled image (Title n) = named (value image) (walk 16 (3 + n) (behind image))
+titled image (Title n) = underTitle (value image) (walk 16 (3 + n) (behind image))
 titled image (Grids n) = broken 0
 titled image Block = broken 0
 titled image End = broken 0
@@ -86,7 +86,7 @@ head t n = t ∷ n / 256 ∷ n % 256 ∷ []
 
 unfoldable pub partBytes : Part → List ℕ
 partBytes (grids ws) = head 2 (8 * length ws) ++ bytesOf 8 ws
-partBytes (block w) = head 3 76 ++ bytesOf 2 (fields 16 38 w)
+partBytes (block w) = head 3 76 ++ bytesOf 2 (digits 16 38 w)
 
 unfoldable pub partsBytes : List Part → List ℕ
 partsBytes [] = []

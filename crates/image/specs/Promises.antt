@@ -6,13 +6,13 @@ use mathlib.Core.Bool.{true}
 use mathlib.Core.List.{List, [], _∷_, _++_}
 use Prim.Native.Nat.{ℕ, _^_, _≤_, _<_}
 use lib.ListN.{length}
-use Rattle.words.specs.Fields.{Below}
+use Rattle.words.specs.Digits.{Below}
 use Rattle.fields.specs.declared.Field.the-variants.{Title, Grids, Block, Fails}
 use Rattle.fields.specs.Fields.{isTitle, fieldOf}
 use Rattle.image.specs.declared.Outcome.{Outcome}
 use Rattle.image.specs.Card.{Part, grids, block, Card, sound, broken, cardOf, frontOf, imageOf}
 use Rattle.image.specs.Answer.{numberOf, placeOf}
-use Rattle.image.specs.Calls.{Checked, Named, counts}
+use Rattle.image.specs.Calls.{Checked, TitleGiven, counts}
 
 -- A card that can stand in an image: a title of 1 to 24 bytes, each 20 to 7E hex; at most 16 data fields, each of at most 512 grids or of
 -- one block.
@@ -63,9 +63,9 @@ pub record ImagePromises : Type 0 where
   pub broken-checked : (s : List ℕ) (at : ℕ) (r : Outcome) → length s ≤ 32768 → cardOf s ≡ broken at → Checked s r
       → (numberOf r ≡ 4) × (placeOf r ≡ at)
   -- `image::title` gives the card's title.
-  pub title-given : (s r : List ℕ) (c : Card) → cardOf s ≡ sound c → Named s r → r ≡ c .title
+  pub title-given : (s r : List ℕ) (c : Card) → cardOf s ≡ sound c → TitleGiven s r → r ≡ c .title
 
 -- No second outcome satisfies the statement of a call.
 pub record OneOutcome : Type 0 where
   pub check : (s : List ℕ) (a b : Outcome) → Checked s a → Checked s b → a ≡ b
-  pub title : (s a b : List ℕ) → Named s a → Named s b → a ≡ b
+  pub title : (s a b : List ℕ) → TitleGiven s a → TitleGiven s b → a ≡ b

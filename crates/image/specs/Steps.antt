@@ -7,9 +7,9 @@ use Rattle.image.specs.declared.Outcome.the-variants.{Sound, Broken}
 use Rattle.image.specs.Card.{Part, Found, sound, broken, gridsIn, blocksIn}
 
 -- what is found, with g grids and b blocks before it
-abbrev pub counted : ℕ → ℕ → Found (List Part) → Outcome
-counted g b (sound ps) = Sound (g + length (gridsIn ps)) (b + length (blocksIn ps))
-counted g b (broken at) = Broken at
+abbrev pub foundAfter : ℕ → ℕ → Found (List Part) → Outcome
+foundAfter g b (sound ps) = Sound (g + length (gridsIn ps)) (b + length (blocksIn ps))
+foundAfter g b (broken at) = Broken at
 
 -- a number that stays small as the walk goes on
 abbrev pub Inside : List ℕ → ℕ → Type 0

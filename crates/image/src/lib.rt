@@ -6,9 +6,9 @@
 // specs/Card.antt has what an image holds and where it is broken, specs/Calls.antt what each call promises, and specs/Promises.antt what is
 // proved of it.
 ghost use mathlib.Core.Path.{_≡_};
-ghost use Rattle.image.specs.Calls.{Checked, Named};
+ghost use Rattle.image.specs.Calls.{Checked, TitleGiven};
 ghost use Rattle.image.specs.Card.{walk};
-ghost use Rattle.image.specs.Steps.{counted, Inside};
+ghost use Rattle.image.specs.Steps.{foundAfter, Inside};
 use fields::BLOCK;
 use fields::Field;
 use fields::HEAD;
@@ -28,7 +28,7 @@ pub const DATA_FIELDS: usize = 16;
 // The fields from the offset `at` on, of which `left` may be data fields, counted behind the grids and blocks that were passed.
 fn walk(rest: &[u8], at: usize, left: usize, grids: usize, blocks: usize) -> Outcome
     requires { ⌜ Inside (now rest) at × Inside (now rest) grids × Inside (now rest) blocks ⌝ }
-    ensures { λ r. ⌜ r ≡ counted grids blocks (walk left at (now (rest .entry))) ⌝ }
+    ensures { λ r. ⌜ r ≡ foundAfter grids blocks (walk left at (now (rest .entry))) ⌝ }
 {
     match fields::front(rest) {
         Field::Grids(n) => {
@@ -74,7 +74,7 @@ pub fn check(image: &[u8]) -> Outcome
 
 // The title of an image, as it stands there; nothing where the first field is no title.
 pub fn title(image: &[u8]) -> &[u8]
-    ensures { λ r. ⌜ Named (now (image .entry)) (now r) ⌝ }
+    ensures { λ r. ⌜ TitleGiven (now (image .entry)) (now r) ⌝ }
 {
     match fields::front(image) {
         Field::Title(n) => {

@@ -6,8 +6,8 @@ use Prim.Native.Nat.{ℕ, _+_, _^_, _≤_, _<_}
 use native.Mathlib.Omega.{arith}
 use lib.ListN.{length, getD, set, take}
 use lib.Seq.{length-take-le}
-use Rattle.words.specs.Fields.{fields, joined}
-use Rattle.words.proofs.Fields.{joined-fields}
+use Rattle.words.specs.Digits.{digits, joined}
+use Rattle.words.proofs.Digits.{joined-digits}
 use Rattle.words.proofs.Lists.{partly, partly-at, partly-step}
 use Rattle.codes.specs.Verdict.{Verdict, clean, flipsOf, verdict, repaired, scrubbed}
 use Rattle.codes.specs.Tally.{isClean, isMended, isLost}
@@ -24,11 +24,11 @@ use Rattle.page.specs.declared.Tally.{Tally}
 -- ---- one grid
 
 -- a clean grid stays as it is, and counts as any clean one
-pub decoded-clean : (w : ℕ) (rows : List ℕ) → w < 2 ^ 64 → rows ≡ fields 8 8 w → Judged rows true
+pub decoded-clean : (w : ℕ) (rows : List ℕ) → w < 2 ^ 64 → rows ≡ digits 8 8 w → Judged rows true
     → (w ≡ scrubbed gridCode w)
     × ((t : Tally) → (counted t (clean 0) ≡ counted t (verdict gridCode w)) × (Roomy t (verdict gridCode w) → Roomy t (clean 0)))
 decoded-clean w rows l e j =
-    let same : joined 8 rows ≡ w = ap (joined 8) e ∙ joined-fields 8 8 w l in
+    let same : joined 8 rows ≡ w = ap (joined 8) e ∙ joined-digits 8 8 w l in
     let (d, p) = judged-clean rows j in
     let v : verdict gridCode w ≡ clean d = sym (ap (verdict gridCode) same) ∙ p in (
       clean-word gridCode (grid.promised .verdicts) w d v .1 ∙ sym (ap (repaired gridCode w) v),

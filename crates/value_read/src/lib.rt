@@ -4,7 +4,7 @@
 ghost use mathlib.Core.Path.{_≡_};
 ghost use Prim.Native.Nat.{_/_, _≤_};
 ghost use lib.ListN.{length};
-ghost use Rattle.words.specs.Fields.{joined};
+ghost use Rattle.words.specs.Digits.{joined};
 ghost use Rattle.value_read.specs.Shown.{dataOfGrid, flipsOfGrid};
 ghost use Rattle.value_read.specs.Steps.{ReadValue};
 use grid::Grid;

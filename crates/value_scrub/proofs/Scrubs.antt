@@ -12,9 +12,9 @@ use types.Run.{OneOf}
 use denote.Enum.Declared.{tagOf}
 use borrow.Author.Tests.{eq-eqb}
 use Rattle.words.specs.Word.{choose}
-use Rattle.words.specs.Fields.{fields, joined, Below}
+use Rattle.words.specs.Digits.{digits, joined, Below}
 use Rattle.words.specs.Bytes.{wordsIn, bytesOf}
-use Rattle.words.proofs.Fields.{length-fields, fields-joined}
+use Rattle.words.proofs.Digits.{length-digits, digits-joined}
 use Rattle.words.proofs.Lists.{part-behind}
 use Rattle.words.proofs.Bytes.{length-words, words-two, bytes-append, bytes-words, words-below}
 use Rattle.codes.specs.Verdict.{Verdict, clean, mended, lost, verdict, scrubbed, flipsOf}
@@ -193,18 +193,18 @@ module _ (value words after : List ℕ) (r : Outcome) (fits : length value ≡ 7
   answer : ofAnswer r ≡ blockTally (w ∷ [])
   answer = ap ofAnswer told ∙ answered (verdict blockCode w) ∙ sym (one-block w)
 
-  is-after : after ≡ fields 16 38 (scrubbed blockCode w)
+  is-after : after ≡ digits 16 38 (scrubbed blockCode w)
   unfolding w
   is-after =
       done .after
-      ∙ ap {B = List ℕ} (λ (b : Bool). choose b (fields 16 38 (scrubbed blockCode (joined 16 words))) words) (eq-eqb (length words) 38 thirty-eight)
-      ∙ ap (λ l. fields 16 38 (scrubbed blockCode (joined 16 l))) taken
+      ∙ ap {B = List ℕ} (λ (b : Bool). choose b (digits 16 38 (scrubbed blockCode (joined 16 words))) words) (eq-eqb (length words) 38 thirty-eight)
+      ∙ ap (λ l. digits 16 38 (scrubbed blockCode (joined 16 l))) taken
 
   pub words-written : (exit : List ℕ) → (length value ≡ 2 * length after → exit ≡ bytesOf 2 after) → ScrubbedBlock value (ofAnswer r) exit
   unfolding w
   words-written exit e = record {
     answer = answer;
-    after = e (omega (arith, fits, ap length is-after, length-fields 16 38 (scrubbed blockCode w))) ∙ ap (bytesOf 2) is-after;
+    after = e (omega (arith, fits, ap length is-after, length-digits 16 38 (scrubbed blockCode w))) ∙ ap (bytesOf 2) is-after;
   }
 
   pub words-kept : ofAnswer r .mended ≡ 0 → ScrubbedBlock value (ofAnswer r) value
@@ -212,7 +212,7 @@ module _ (value words after : List ℕ) (r : Outcome) (fits : length value ≡ 7
   words-kept z = record {
     answer = answer;
     after =
-        sym (ap (λ (x : ℕ). bytesOf 2 (fields 16 38 x)) (unmended blockCode (blocks.promised .verdicts) w (sym (ap (λ t. t .mended) (ap ofAnswer told ∙ answered (verdict blockCode w))) ∙ z))
-        ∙ ap (bytesOf 2) (fields-joined 16 38 (wordsIn 2 38 value) (length-words 2 38 value) (words-below 2 38 value (omega (arith, fits)) bytes))
+        sym (ap (λ (x : ℕ). bytesOf 2 (digits 16 38 x)) (unmended blockCode (blocks.promised .verdicts) w (sym (ap (λ t. t .mended) (ap ofAnswer told ∙ answered (verdict blockCode w))) ∙ z))
+        ∙ ap (bytesOf 2) (digits-joined 16 38 (wordsIn 2 38 value) (length-words 2 38 value) (words-below 2 38 value (omega (arith, fits)) bytes))
         ∙ bytes-words 2 38 value fits bytes);
   }

@@ -3,7 +3,7 @@ use mathlib.Core.Path.{_≡_}
 use mathlib.Core.List.{List, [], _∷_, map}
 use Prim.Native.Nat.{ℕ, _+_, _/_, _^_, _<_}
 use lib.ListN.{length}
-use Rattle.words.specs.Fields.{fields, joined}
+use Rattle.words.specs.Digits.{digits, joined}
 use Rattle.words.specs.Bytes.{wordsIn, bytesOf}
 use Rattle.codes.specs.Verdict.{scrubbed}
 use Rattle.grid_code.specs.Code.{gridCode}
@@ -43,4 +43,4 @@ pub record ScrubbedGrids (value : List ℕ) (r : Tally) (exit : List ℕ) : Type
 
 pub record ScrubbedBlock (value : List ℕ) (r : Blocks) (exit : List ℕ) : Type 0 where
   pub answer : r ≡ blockTally (joined 16 (wordsIn 2 38 value) ∷ [])
-  pub after : exit ≡ bytesOf 2 (fields 16 38 (scrubbed blockCode (joined 16 (wordsIn 2 38 value))))
+  pub after : exit ≡ bytesOf 2 (digits 16 38 (scrubbed blockCode (joined 16 (wordsIn 2 38 value))))

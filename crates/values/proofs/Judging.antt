@@ -13,7 +13,7 @@ use Rattle.fields.specs.Fields.{value, fieldOf}
 use Rattle.fields.proofs.Fields.{Stands, known, length-value}
 use Rattle.image.specs.declared.Outcome.{Outcome}
 use Rattle.image.specs.declared.Outcome.the-variants.{Sound, Length, Broken}
-use Rattle.image.specs.Card.{Part, Card, gridsIn, Found, sound, broken, walk, named, titled, cardOf}
+use Rattle.image.specs.Card.{Part, Card, gridsIn, Found, sound, broken, walk, underTitle, titled, cardOf}
 use Rattle.image.specs.Answer.{numberOf, placeOf}
 use Rattle.image.specs.Calls.{byFound, counts, Checked}
 use Rattle.image.proofs.Walking.{card-titled}
@@ -78,7 +78,7 @@ pub inside : (s : List ℕ) (c : Card) → cardOf s ≡ sound c → Inside s c
 unfolding cardOf cardIn
 inside s c e = go (fieldOf s) refl e
   where
-    behind : (n : ℕ) → fieldOf s ≡ Title n → (x : Found (List Part)) → walk 16 (3 + n) (drop (3 + n) s) ≡ x → named (value s) x ≡ sound c → Inside s c
+    behind : (n : ℕ) → fieldOf s ≡ Title n → (x : Found (List Part)) → walk 16 (3 + n) (drop (3 + n) s) ≡ x → underTitle (value s) x ≡ sound c → Inside s c
     behind n f (sound ps) w e =
         let same : record { title = value s; parts = ps } ≡ c = ap (cardIn c) e in
         record { length-is = n; titled-so = f; title-is = sym (ap (λ c. c .title) same); found = w ∙ ap (λ (c : Card). sound (c .parts)) same }

@@ -8,7 +8,7 @@ use native.Mathlib.Omega.{arith}
 use lib.ListN.{length, take, drop, length-append, length-drop}
 use types.Run.{OneOf}
 use denote.Enum.Declared.{tagOf}
-use Rattle.words.specs.Fields.{Below}
+use Rattle.words.specs.Digits.{Below}
 use Rattle.words.specs.Bytes.{wordsIn}
 use Rattle.words.proofs.Bytes.{length-words}
 use Rattle.fields.specs.declared.Field.{Field}

@@ -4,7 +4,7 @@
 ghost use mathlib.Core.Path.{_≡_};
 ghost use Prim.Native.Nat.{_*_, _≤_};
 ghost use lib.ListN.{length, take};
-ghost use Rattle.words.specs.Fields.{fields, joined};
+ghost use Rattle.words.specs.Digits.{digits, joined};
 ghost use Rattle.words.specs.Bytes.{wordsIn, bytesOf, laid};
 use grid::Grid;
 
@@ -66,7 +66,7 @@ fn word_at(bytes: &[u8]) -> u16
 // .. and put there.
 fn put_word(bytes: &mut [u8], word: u16)
     requires { ⌜ 2 ≤ length (now bytes) ⌝ }
-    ensures { λ r. ⌜ now (bytes .exit) ≡ laid (fields 8 2 word) (now (bytes .entry)) ⌝ }
+    ensures { λ r. ⌜ now (bytes .exit) ≡ laid (digits 8 2 word) (now (bytes .entry)) ⌝ }
 {
     bytes[0] = (word % 256) as u8;
     bytes[1] = (word / 256 % 256) as u8;

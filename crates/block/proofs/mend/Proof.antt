@@ -4,7 +4,7 @@ use Prim.Native.Nat.{ℕ, _^_}
 use native.Mathlib.Omega.{arith}
 use lib.Bits.{bitXor}
 use borrow.Author.Needs.{needs}
-use Rattle.block_flips.specs.Steps.{Found, Unexplained}
+use Rattle.block_flips.specs.Steps.{Nearest, Unexplained}
 use Rattle.block.proofs.Outcomes.{mends-one, mends-two, is-lost}
 use Rattle.block.proofs.mend.Statement.{statement}
 use Rattle.block.proofs.mend.Tie as tie
@@ -14,7 +14,7 @@ returns c =
     let at = c .before .before .before .before .before in
     let known = at .before .before .before in
     let s = known .before in
-    let found = subst (Found (s .args .s)) (at .p .given .1) (at .before .before .nearest .ensures) in
+    let found = subst (Nearest (s .args .s)) (at .p .given .1) (at .before .before .nearest .ensures) in
     mends-one (s .args .words .now) (s .pre .0, λ i. omega (arith, known .slice-known .given i)) _ (c .before .before .flip .last .0) (found .0)
     (found .1 ∙ s .pre .1) (omega arith, λ i. omega (arith, c .slice-known2 .given i)) (c .before .before .flip .ensures .0 (omega (arith, found .0)))
 
@@ -23,7 +23,7 @@ returns-2 c =
     let at = c .before .before .before .before .before .before .before .before .before in
     let known = at .before .before .before in
     let s = known .before in
-    let found = subst (Found (s .args .s)) (at .p2 .given .1) (at .before .before .nearest .ensures) in
+    let found = subst (Nearest (s .args .s)) (at .p2 .given .1) (at .before .before .nearest .ensures) in
     let once = c .before .before .before .before .before .before .flip2 .ensures .0 (omega (arith, found .0)) in
     mends-two (s .args .words .now) (s .pre .0, λ i. omega (arith, known .slice-known .given i)) _ _ (c .before .before .flip3 .last .0) (found .0)
     (found .1) (found .2 ∙ s .pre .1) (λ e. s .pre .2 (s .pre .1 ∙ e)) (omega arith, λ i. omega (arith, c .slice-known4 .given i))
@@ -33,7 +33,7 @@ returns-3 : tie.Need-returns-3
 returns-3 c =
     let known = c .before .before .before in
     let s = known .before in
-    let found = subst (Found (s .args .s)) (c .enum-told .given .1) (c .before .before .nearest .ensures) in
+    let found = subst (Nearest (s .args .s)) (c .enum-told .given .1) (c .before .before .nearest .ensures) in
     is-lost (s .args .words .now) (s .pre .0, λ i. omega (arith, known .slice-known .given i)) (λ e. s .pre .2 (s .pre .1 ∙ e))
     (subst Unexplained (s .pre .1) found)
 

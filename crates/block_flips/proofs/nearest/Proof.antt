@@ -8,13 +8,13 @@ use borrow.Author.Count.{below-more}
 use borrow.Author.Tests.{not-true, not-false}
 use borrow.Author.Needs.{needs}
 use Rattle.block_code.specs.declared.Checks.{Checks}
-use Rattle.block_flips.specs.Steps.{Fails}
+use Rattle.block_flips.specs.Steps.{RuledOut}
 use Rattle.block_flips.proofs.Search.{found, failed, none-found}
 use Rattle.block_flips.proofs.nearest.Statement.{statement}
 use Rattle.block_flips.proofs.nearest.Tie as tie
 
 abbrev Inv-loop : tie.InvT-loop
-Inv-loop s places k₀ k = (k ≤ 2) × ((m : ℕ) → m < k → Fails s (getD places m 0))
+Inv-loop s places k₀ k = (k ≤ 2) × ((m : ℕ) → m < k → RuledOut s (getD places m 0))
 
 abbrev μ-loop : tie.MeasureT-loop
 μ-loop s places k₀ k = 2 - k
@@ -34,7 +34,7 @@ loop-again c =
     let places : List ℕ = loop .before .before .chosen .result ∷ loop .before .lowest .result ∷ [] in
     let attempt = c .before .before .attempt in (
       omega arith,
-      below-more (λ (m : ℕ). Fails s (getD places m 0)) (loop .loop .k) (loop .loop .inv .1)
+      below-more (λ (m : ℕ). RuledOut s (getD places m 0)) (loop .loop .k) (loop .loop .inv .1)
           (failed s _ (attempt .result) (attempt .ensures) (sym (c .before .is-more .ensures) ∙ not-false (c .before .is-more .result) (c .if1 .left))),
     )
 
@@ -43,7 +43,7 @@ returns-2 c =
     let loop = c .before in
     let s : Checks = loop .before .before .before .args .s in
     none-found s _ (loop .before .before .chosen .ensures) (loop .loop .inv .1 0 (omega arith))
-    (subst (Fails s) (loop .before .lowest .ensures) (loop .loop .inv .1 1 (omega arith)))
+    (subst (RuledOut s) (loop .before .lowest .ensures) (loop .loop .inv .1 1 (omega arith)))
 
 pub nearest-spec : {M : Type 1} → statement M
 nearest-spec =

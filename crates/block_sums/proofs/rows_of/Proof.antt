@@ -8,9 +8,9 @@ use lib.Bits.{bitXor, bitAnd, mask-lt}
 use lib.Dec.{lit<}
 use lib.ListN.{getD}
 use lib.Pow.{pow-pos}
-use Rattle.words.specs.Fields.{fields}
-use Rattle.words.proofs.Fields.{fields-low}
-use Rattle.words.proofs.Linear.{Linear, same, _⊕_, shr, shl, mask, then, field, agree-at}
+use Rattle.words.specs.Digits.{digits}
+use Rattle.words.proofs.Digits.{digits-low}
+use Rattle.words.proofs.Linear.{Linear, same, _⊕_, shr, shl, mask, then, digit, agree-at}
 use Rattle.words.proofs.Test.{same-below}
 use Rattle.block_code.specs.Code.{rowsOf}
 use Rattle.block_code.proofs.Stack.{parity, stack, parity-place}
@@ -42,7 +42,7 @@ folded l = rest .at (bitXor (fours-down .at (bytes (getD l 0 0) (getD l 2 0))) (
 
 -- .. of the 16 words that they are
 abbrev bytes-in : ℕ → ℕ → Linear
-bytes-in i j = then (field 64 4 i) bytes-down ⊕ then (field 64 4 j) bytes-up
+bytes-in i j = then (digit 64 4 i) bytes-down ⊕ then (digit 64 4 j) bytes-up
 
 abbrev folded-in : Linear
 folded-in = then (then (bytes-in 0 2) fours-down ⊕ then (bytes-in 1 3) fours-up) rest
@@ -51,16 +51,16 @@ cast-result : tie.Need-cast-result
 cast-result c = record { fits = lt-trans (mask-lt (folded (c .args .a ∷ c .args .b ∷ c .args .c ∷ c .args .d ∷ [])) 16) (lit< tt) }
 
 -- each of the 256 places is in the parity of its word
-each-place : (k : ℕ) → k < 256 → bitAnd (folded-in .at (2 ^ k)) 0xFFFF ≡ rowsOf (fields 16 16 (2 ^ k))
+each-place : (k : ℕ) → k < 256 → bitAnd (folded-in .at (2 ^ k)) 0xFFFF ≡ rowsOf (digits 16 16 (2 ^ k))
 each-place k l =
     same-below 256 (λ k. bitAnd (folded-in .at (2 ^ k)) 0xFFFF) (λ k. 2 ^ (k / 16)) tt k l
-    ∙ sym (ap (λ (x : ℕ). rowsOf (fields 16 16 (2 ^ x))) (omega arith) ∙ parity-place 16 (k / 16) (k % 16) (omega arith) (omega arith))
+    ∙ sym (ap (λ (x : ℕ). rowsOf (digits 16 16 (2 ^ x))) (omega arith) ∙ parity-place 16 (k / 16) (k % 16) (omega arith) (omega arith))
 
 returns : tie.Need-returns
 returns c w e =
-    ap (λ (l : List ℕ). bitAnd (folded l) 0xFFFF) (sym (fields-low 64 4 w ∙ e))
+    ap (λ (l : List ℕ). bitAnd (folded l) 0xFFFF) (sym (digits-low 64 4 w ∙ e))
     ∙ agree-at (mask folded-in 0xFFFF) (stack 1 parity 16) 256 each-place (w % 2 ^ 256) (mod-lt w (pow-pos 256))
-    ∙ ap rowsOf (fields-low 16 16 w)
+    ∙ ap rowsOf (digits-low 16 16 w)
 
 pub rows-of-spec : {M : Type 1} → statement M
 rows-of-spec = tie.close (tie.spec cast-result returns)

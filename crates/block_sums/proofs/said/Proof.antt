@@ -9,9 +9,9 @@ use lib.Count.{ones}
 use lib.ListN.{getD, take, drop}
 use lib.Pow.{pow-pos}
 use borrow.Author.Needs.{needs}
-use Rattle.words.specs.Fields.{fields, joined}
+use Rattle.words.specs.Digits.{digits, joined}
 use Rattle.words.proofs.Bit.{odd-lt}
-use Rattle.words.proofs.Fields.{fields-low, fields-take}
+use Rattle.words.proofs.Digits.{digits-low, digits-take}
 use Rattle.block_code.specs.Code.{odd, columnsOf}
 use Rattle.block_code.specs.Checks.{saidBy}
 use Rattle.block_sums.proofs.Sums.{upper, halves, all-columns, with-system}
@@ -40,16 +40,16 @@ returns-2 c = λ every.
     let ws : List ℕ = start .before .args .words .now in
     let w : ℕ = joined 16 ws % 2 ^ 512 in
     let low : w < 2 ^ 512 = mod-lt (joined 16 ws) (pow-pos 512) in
-    let words : fields 16 32 w ≡ take 32 ws =
-    fields-low 16 32 (joined 16 ws) ∙ fields-take 16 32 ws every (λ i. omega (arith, start .shared-slice-known .given i)) in
+    let words : digits 16 32 w ≡ take 32 ws =
+    digits-low 16 32 (joined 16 ws) ∙ digits-take 16 32 ws every (λ i. omega (arith, start .shared-slice-known .given i)) in
     let read : List ℕ =
     a .four .result ∷ b .four2 .result ∷ k .four3 .result ∷ d .four4 .result ∷ e .four5 .result ∷ f .four6 .result ∷ g .four7 .result
     ∷ h .four8 .result ∷ [] in
-    let parts : fields 64 8 w ≡ read = fields-low 64 8 (joined 16 ws) ∙ cc in
-    let part : (j : ℕ) → getD read j 0 ≡ getD (fields 64 8 w) j 0 = λ j. ap (λ (l : List ℕ). getD l j 0) (sym parts) in
+    let parts : digits 64 8 w ≡ read = digits-low 64 8 (joined 16 ws) ∙ cc in
+    let part : (j : ℕ) → getD read j 0 ≡ getD (digits 64 8 w) j 0 = λ j. ap (λ (l : List ℕ). getD l j 0) (sym parts) in
     let rows = halves w low odd 0 32 (λ x l. odd-lt (ones x)) (omega arith)
     (after-rows .before .rows-of .ensures (upper .at w) (ap (drop 4) parts)) (after-rows .rows-of2 .ensures w (ap (take 4) parts)) in
-    let columns : after-columns .columns-of .result ≡ columnsOf (fields 16 32 w) =
+    let columns : after-columns .columns-of .result ≡ columnsOf (digits 16 32 w) =
     after-columns .columns-of .ensures ∙ rw (part 0, part 1, part 2, part 3, part 4, part 5, part 6, part 7) (all-columns w low) in
     let diagonals = with-system w low columns (halves w low (λ x. x) 15 64 (λ x l. l) (omega arith)
     (c .before .diagonals-of .ensures (upper .at w) (ap (drop 4) parts)) (c .diagonals-of2 .ensures w (ap (take 4) parts))) in

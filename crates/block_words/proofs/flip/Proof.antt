@@ -7,8 +7,8 @@ use lib.Bits.{bitXor}
 use lib.ListN.{getD, set}
 use lib.Pow.{pow-lt, pow-add}
 use borrow.Author.Needs.{needs}
-use Rattle.words.specs.Fields.{joined}
-use Rattle.words.proofs.Fields.{joined-flip}
+use Rattle.words.specs.Digits.{joined}
+use Rattle.words.proofs.Digits.{joined-flip}
 use Rattle.words.proofs.Ones.{one-up}
 use Rattle.block_words.proofs.flip.Statement.{statement}
 use Rattle.block_words.proofs.flip.Tie as tie

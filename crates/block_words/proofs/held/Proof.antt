@@ -7,8 +7,8 @@ use lib.Bits.{bitOr}
 use lib.Dec.{lit<}
 use lib.ListN.{length, getD, drop}
 use borrow.Author.Needs.{needs}
-use Rattle.words.specs.Fields.{joined, Below}
-use Rattle.words.proofs.Fields.{joined-drop, joined-next, side-by-side}
+use Rattle.words.specs.Digits.{joined, Below}
+use Rattle.words.proofs.Digits.{joined-drop, joined-next, side-by-side}
 use Rattle.block_code.specs.Checks.{heldBy}
 use Rattle.block_words.proofs.held.Statement.{statement}
 use Rattle.block_words.proofs.held.Tie as tie

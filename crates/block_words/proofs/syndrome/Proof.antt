@@ -4,8 +4,8 @@ use mathlib.Core.List.{List}
 use Prim.Native.Nat.{ℕ}
 use native.Mathlib.Omega.{arith}
 use borrow.Author.Needs.{needs}
-use Rattle.words.specs.Fields.{joined}
-use Rattle.words.proofs.Fields.{fields-take}
+use Rattle.words.specs.Digits.{joined}
+use Rattle.words.proofs.Digits.{digits-take}
 use Rattle.block_code.specs.Checks.{mixed, saidBy, heldBy, syndromeOf}
 use Rattle.block_words.proofs.syndrome.Statement.{statement}
 use Rattle.block_words.proofs.syndrome.Tie as tie
@@ -21,7 +21,7 @@ returns-2 c =
       (λ all.
           c .mix .ensures ∙ ap₂ mixed (c .before .before .said .ensures (omega arith)) (c .before .held .ensures)
           ∙ ap (λ xs. mixed (saidBy xs) (heldBy (joined 16 ws)))
-          (sym (fields-take 16 32 ws (omega arith) (λ i. omega (arith, start .shared-slice-known .given i))))),
+          (sym (digits-take 16 32 ws (omega arith) (λ i. omega (arith, start .shared-slice-known .given i))))),
       (λ few. absurd (omega arith)),
     )
 

@@ -7,8 +7,8 @@ use lib.ListN.{length, take, drop-of-length-le}
 use lib.Pow.{split}
 use lib.Seq.{sets, sets-eq, paste, take-paste, length-paste}
 use borrow.Author.Needs.{needs}
-use Rattle.words.specs.Fields.{fields, joined, Below}
-use Rattle.words.proofs.Fields.{fields-take, fields-joined, joined-fields, joined-lt, joined-append}
+use Rattle.words.specs.Digits.{digits, joined, Below}
+use Rattle.words.proofs.Digits.{digits-take, digits-joined, joined-digits, joined-lt, joined-append}
 use Rattle.block_code.specs.Code.{codeword}
 use Rattle.block_code.specs.Checks.{saidBy, checkWords}
 use Rattle.block_code.specs.declared.Checks.{Checks}
@@ -29,14 +29,14 @@ joined-checks k =
 
 -- the words of the data d
 abbrev front : ℕ → List ℕ
-front d = fields 16 32 d
+front d = digits 16 32 d
 
 -- with what it says behind it, they are its codeword
 codeword-words : (d : ℕ) → d < 2 ^ 512 → joined 16 (front d ++ checkWords (saidBy (front d))) ≡ codeword d
 unfolding codeword
 codeword-words d h =
     joined-append 16 (front d) (checkWords (saidBy (front d)))
-    ∙ ap₂ (λ (x y : ℕ). x * 2 ^ 512 + y) (joined-checks (saidBy (front d))) (joined-fields 16 32 d h)
+    ∙ ap₂ (λ (x y : ℕ). x * 2 ^ 512 + y) (joined-checks (saidBy (front d))) (joined-digits 16 32 d h)
 
 -- the data pasted in, and the checks stored behind it
 stored : (values before : List ℕ) (k : Checks) → length values ≡ 32 → length before ≡ 38
@@ -54,7 +54,7 @@ module _ (values : List ℕ) (n : length values ≡ 32) (h : Below 16 values) (k
   d = joined 16 values
 
   data-words : take 32 values ≡ front d
-  data-words = sym (fields-take 16 32 values (omega arith) h)
+  data-words = sym (digits-take 16 32 values (omega arith) h)
 
   said-is : k ≡ saidBy (front d)
   said-is = e ∙ ap saidBy data-words
@@ -63,12 +63,12 @@ module _ (values : List ℕ) (n : length values ≡ 32) (h : Below 16 values) (k
   fits = subst (λ (k : Checks). k .diagonals < 2 ^ 48) (sym said-is) (diagonals-lt d)
 
   written : (before exit : List ℕ) → length before ≡ 38 → length exit ≡ 38 → Below 16 exit
-      → exit ≡ sets (paste before 0 values 32) 32 (checkWords k) → exit ≡ fields 16 38 (codeword d)
+      → exit ≡ sets (paste before 0 values 32) 32 (checkWords k) → exit ≡ digits 16 38 (codeword d)
   written before exit m l b x =
-      sym (fields-joined 16 38 exit l b)
-      ∙ ap (λ (ws : List ℕ). fields 16 38 (joined 16 ws))
+      sym (digits-joined 16 38 exit l b)
+      ∙ ap (λ (ws : List ℕ). digits 16 38 (joined 16 ws))
       (x ∙ stored values before k n m ∙ ap₂ {C = List ℕ} (λ (ws : List ℕ) (k : Checks). ws ++ checkWords k) data-words said-is)
-      ∙ ap (fields 16 38) (codeword-words d (joined-lt 16 32 values n h))
+      ∙ ap (digits 16 38) (codeword-words d (joined-lt 16 32 values n h))
 
 returns : tie.Need-returns
 returns c = ((λ (n, m). absurd (c .if1 .taken n)), λ other. refl)

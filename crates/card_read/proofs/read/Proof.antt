@@ -44,7 +44,7 @@ returns-3 c =
     short-flips s (now (st .args .title)) (now (st .args .numbers)) (now (st .args .flips)) w (omega (arith, ap length name, c .before .before .if1 .left))
     (omega (arith, w .grids, c .before .if2 .left)) (omega (arith, w .grids, c .if3 .taken))
 
-room : tie.Need-sub-fields
+room : tie.Need-sub-read-fields
 room c =
     let st = c .before .before .before .before .before .before .before .before .before .before .before .before .before .before .before .before in
     let s = now (st .args .image) in
@@ -53,8 +53,8 @@ room c =
     let name = promised .title-given s (now (c .before .before .before .before .before .before .before .title .result)) (w .card) (w .is) (c .before .before .before .before .before .before .before .title .ensures) in
     omega (arith, ap length name, title-long s (w .card) i, stands s (w .card) i .room)
 
-fields-requires : tie.Need-fields-requires
-fields-requires c κs =
+read-fields-requires : tie.Need-read-fields-requires
+read-fields-requires c κs =
     let st = c .before .before .before .before .before .before .before .before .before .before .before .before .before .before .before .before .before .before .before in
     let s = now (st .args .image) in
     let w = whole s (c .before .before .before .before .before .before .before .before .before .before .before .before .grids .given .0 .0) _ (subst (Checked s) (c .before .before .before .before .before .before .before .before .before .before .before .before .grids .given .1) (c .before .before .before .before .before .before .before .before .before .before .before .before .before .before .check .ensures)) in
@@ -97,14 +97,14 @@ returns-6 c =
     let k = 3 + length (now (title .result)) in
     let end : k ≡ 3 + i .length-is = omega (arith, ap length name, title-long s (w .card) i) in
     let found = ap (walk 16 (3 + i .length-is)) (part-behind k s ∙ ap (λ (k : ℕ). drop k s) end) ∙ i .found in
-    let fields = c .before .before .before .before .fields in
+    let read-fields = c .before .before .before .before .read-fields in
     let all =
-    all-read s (now (st .args .title)) (now (st .args .numbers)) (now (st .args .flips)) w (c .before .before .before .before .before .before .before .before .before .before .copy .last .1 .0) (fields .last .1 .0) (fields .last .1 .1 .0)
+    all-read s (now (st .args .title)) (now (st .args .numbers)) (now (st .args .flips)) w (c .before .before .before .before .before .before .before .before .before .before .copy .last .1 .0) (read-fields .last .1 .0) (read-fields .last .1 .1 .0)
     (omega (arith, ap length name, c .before .before .before .before .before .before .before .before .before .before .before .before .before .before .if1 .left)) (omega (arith, w .grids, c .before .before .before .before .before .before .before .before .before .before .before .before .before .if2 .left)) (omega (arith, w .grids, c .before .before .before .before .before .before .before .before .before .before .before .before .if3 .left))
     (c .before .before .before .before .before .before .before .before .before .before .copy .ensures
     (c .before .before .before .before .before .before .before .before .before .before .before .before .before .before .if1 .left) ∙ ap (λ n. laid n (now (st .args .title))) name)
-    (fields .ensures .numbers-after 16 (3 + i .length-is) (w .card .parts) found)
-    (fields .ensures .flips-after 16 (3 + i .length-is) (w .card .parts) found) in
+    (read-fields .ensures .numbers-after 16 (3 + i .length-is) (w .card .parts) found)
+    (read-fields .ensures .flips-after 16 (3 + i .length-is) (w .card .parts) found) in
     record {
       answer = ap₂ (λ (t g : ℕ). Done t g) (ap length name) (w .grids) ∙ all .answer;
       title-after = all .title-after;
@@ -116,5 +116,5 @@ pub read-spec : {M : Type 1} → statement M
 read-spec =
     tie.close
     (tie.spec (λ c κs. search needs) (λ c. search needs) (λ c. search needs) (λ c. search needs) (λ c κs. search needs) returns returns-2 returns-3
-    (λ c κs. search needs) (λ c. search needs) room (λ c. room c) (λ c. search needs) fields-requires returns-4 returns-5 (λ c. search needs)
+    (λ c κs. search needs) (λ c. search needs) room (λ c. room c) (λ c. search needs) read-fields-requires returns-4 returns-5 (λ c. search needs)
     (λ c. search needs) (λ c. search needs) returns-6)

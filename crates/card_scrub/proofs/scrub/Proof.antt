@@ -24,15 +24,15 @@ use Rattle.card_scrub.proofs.scrub.Tie as tie
 end-is : (s r : List ℕ) (w : (g : ℕ) × Whole s g) (i : Inside s (w .1 .card)) → r ≡ w .1 .card .title → 3 + length r ≡ 3 + i .length-is
 end-is s r w i e = omega (arith, ap length e, title-long s (w .1 .card) i)
 
-room : tie.Need-sub-fields
+room : tie.Need-sub-scrub-fields
 room c =
     let s = now (c .before .before .before .before .before .before .before .args .image) in
     let w = whole s _ _ (subst (Checked s) (c .before .before .enum-told2 .given .1) (c .before .before .before .before .check .ensures)) in
     let i = inside s (w .card) (w .is) in
     omega (arith, end-is s (now (c .title .result)) (_, w) i (promised .title-given s (now (c .title .result)) (w .card) (w .is) (c .title .ensures)), stands s (w .card) i .room)
 
-fields-requires : tie.Need-fields-requires
-fields-requires c κs =
+scrub-fields-requires : tie.Need-scrub-fields-requires
+scrub-fields-requires c κs =
     let s = now (c .before .before .before .before .before .before .before .before .args .image) in
     let w = whole s _ _ (subst (Checked s) (c .before .before .before .enum-told2 .given .1) (c .before .before .before .before .before .check .ensures)) in
     let i = inside s (w .card) (w .is) in
@@ -65,17 +65,17 @@ returns-3 c =
     let w = whole s _ _ (subst (Checked s) (c .before .before .before .before .before .before .enum-told2 .given .1) (c .before .before .before .before .before .before .before .before .check .ensures)) in
     let i = inside s (w .card) (w .is) in
     let title = c .before .before .before .before .title in
-    let fields = c .before .before .fields in
+    let scrub-fields = c .before .before .scrub-fields in
     let k = 3 + length (now (title .result)) in
     let end = end-is s (now (title .result)) (_, w) i (promised .title-given s (now (title .result)) (w .card) (w .is) (title .ensures)) in
     let found = ap (walk 16 (3 + i .length-is)) (part-behind k s ∙ ap (λ (k : ℕ). drop k s) end) ∙ i .found in
     record {
       answer =
-          ap Done (fields .ensures .answer 16 (3 + i .length-is) (w .card .parts) found)
+          ap Done (scrub-fields .ensures .answer 16 (3 + i .length-is) (w .card .parts) found)
           ∙ sym (judged-as s Length Broken (λ (c : Card). Done (talliesOf (c .parts))) (w .within) (w .is));
       after =
-          scrubbed-image s (w .card) i k (fields .last .0) end (λ i. c .before .before .before .before .before .before .before .before .before .before .slice-known .given i .fits)
-          (fields .ensures .after 16 (3 + i .length-is) (w .card .parts) found)
+          scrubbed-image s (w .card) i k (scrub-fields .last .0) end (λ i. c .before .before .before .before .before .before .before .before .before .before .slice-known .given i .fits)
+          (scrub-fields .ensures .after 16 (3 + i .length-is) (w .card .parts) found)
           ∙ sym (judged-as s s (λ at. s) (λ c. imageOf (scrubbedCard c)) (w .within) (w .is));
     }
 
@@ -83,4 +83,4 @@ pub scrub-spec : {M : Type 1} → statement M
 scrub-spec =
     tie.close
     (tie.spec (λ c κs. search needs) (λ c. search needs) (λ c. search needs) (λ c. search needs) (λ c κs. search needs) (λ c. search needs) room
-    (λ c. room c) (λ c. search needs) fields-requires (λ c. search needs) returns (λ c. search needs) returns-2 (λ c. search needs) returns-3)
+    (λ c. room c) (λ c. search needs) scrub-fields-requires (λ c. search needs) returns (λ c. search needs) returns-2 (λ c. search needs) returns-3)

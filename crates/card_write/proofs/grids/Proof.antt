@@ -7,7 +7,7 @@ use lib.ListN.{length, take, drop, length-map}
 use lib.Seq.{take-all}
 use denote.Ref.{now}
 use borrow.Author.Needs.{needs}
-use Rattle.words.specs.Fields.{fields}
+use Rattle.words.specs.Digits.{digits}
 use Rattle.words.specs.Bytes.{bytesOf, laid}
 use Rattle.words.proofs.Lists.{length-part, map-getD}
 use Rattle.words.proofs.Turns.{no-words, word-turn, length-turn}
@@ -32,7 +32,7 @@ loop-again c =
     let more : l .i < length ws = omega (arith, long) in
     let room : 8 * length ws ≤ length (now (s .args .bytes)) = omega (arith, long, s .pre) in
     let put = c .before .before .put-grid in
-    let rows = c .before .before .before .encode .ensures .0 .answer ∙ ap (fields 8 8) (sym (map-getD codeword ns (l .i) (omega arith))) in
+    let rows = c .before .before .before .encode .ensures .0 .answer ∙ ap (digits 8 8) (sym (map-getD codeword ns (l .i) (omega arith))) in
     let turn =
     word-turn 8 ws (now (s .args .bytes)) (l .bytes) (l .i) (put .last .0) more room (l .inv .1) (put .ensures (omega (arith, length-part (8 * l .i) (l .bytes), room)) ∙ ap (λ b. laid b (take (length (l .bytes) - 8 * l .i) (drop (8 * l .i) (l .bytes)))) rows) in
     (omega arith, turn, ap length turn ∙ length-turn 8 ws (now (s .args .bytes)) (l .bytes) (l .i) (put .last .0) more room)

@@ -3,7 +3,7 @@ use mathlib.Core.Path.{_≡_, ap₂, _∙_}
 use Prim.Native.Nat.{ℕ, _*_, _%_, _^_}
 use lib.Bits.{bitOr}
 use borrow.Author.Needs.{needs}
-use Rattle.words.proofs.Fields.{both-parts}
+use Rattle.words.proofs.Digits.{both-parts}
 use Rattle.grid_code.specs.Code.{codeword}
 use Rattle.grid_code.proofs.Distance.{codeword-lt}
 use Rattle.grid_code.proofs.completed.Statement.{statement}

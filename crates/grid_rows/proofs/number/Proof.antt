@@ -7,8 +7,8 @@ use lib.ListN.{length, getD}
 use mir.Syntax.{w8}
 use mir.Val.{Fits}
 use borrow.Author.Needs.{needs}
-use Rattle.words.specs.Fields.{joined}
-use Rattle.words.proofs.Fields.{listed, listed-getD}
+use Rattle.words.specs.Digits.{joined}
+use Rattle.words.proofs.Digits.{listed, listed-getD}
 use Rattle.grid_rows.proofs.number.Statement.{statement}
 use Rattle.grid_rows.proofs.number.Tie as tie
 

@@ -1,5 +1,5 @@
 -- `grid_rows::with_row` meets its contract: the row goes where the shift left room. Assumes nothing.
-use Rattle.words.proofs.Fields.{side-by-side}
+use Rattle.words.proofs.Digits.{side-by-side}
 use Rattle.grid_rows.proofs.with_row.Statement.{statement}
 use Rattle.grid_rows.proofs.with_row.Tie as tie
 

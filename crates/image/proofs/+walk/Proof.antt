@@ -14,8 +14,8 @@ use Rattle.fields.proofs.Fields.{known}
 use Rattle.fields.proofs.front.Reads as front-reads
 use Rattle.image.specs.declared.Outcome.the-variants.{Sound, Broken}
 use Rattle.image.specs.Card.{sound, broken, walk as walkOf}
-use Rattle.image.specs.Steps.{counted}
-use Rattle.image.proofs.Walking.{full-grids, full-block, walk-end, walk-behind, walk-title, walk-fails, counted-grids-step, counted-block-step}
+use Rattle.image.specs.Steps.{foundAfter}
+use Rattle.image.proofs.Walking.{full-grids, full-block, walk-end, walk-behind, walk-title, walk-fails, after-grids-step, after-block-step}
 use Rattle.image.proofs.walk.Reads as walk
 use Rattle.image.proofs.walk.Kinds as walk-kinds
 use Rattle.image.proofs.+walk.Lts-walk as lts
@@ -32,12 +32,12 @@ abbrev walk-below : ℕ → In 1 walk-kinds.ps
 walk-below t = and 1 walk-kinds.ps (falls 1 walk-kinds.ps _<_ μ-walk t) walk.Pre
 
 -- no data field may come any more
-none-left : (g b at left : ℕ) (s : List ℕ) → left ≡ 0 → walkOf 0 at s ≡ broken at → Broken at ≡ counted g b (walkOf left at s)
-none-left g b at left s z e = sym (ap (λ (k : ℕ). counted g b (walkOf k at s)) z ∙ ap (counted g b) e)
+none-left : (g b at left : ℕ) (s : List ℕ) → left ≡ 0 → walkOf 0 at s ≡ broken at → Broken at ≡ foundAfter g b (walkOf left at s)
+none-left g b at left s z e = sym (ap (λ (k : ℕ). foundAfter g b (walkOf k at s)) z ∙ ap (foundAfter g b) e)
 
 -- one may, and what is behind it was counted
-one-less : (g b at left : ℕ) (s : List ℕ) → (left ≡ 0 → ⊥) → counted g b (walkOf left at s) ≡ counted g b (walkOf (suc (left - 1)) at s)
-one-less g b at left s h = let e : left ≡ suc (left - 1) = omega (arith, h) in ap (λ (k : ℕ). counted g b (walkOf k at s)) e
+one-less : (g b at left : ℕ) (s : List ℕ) → (left ≡ 0 → ⊥) → foundAfter g b (walkOf left at s) ≡ foundAfter g b (walkOf (suc (left - 1)) at s)
+one-less g b at left s h = let e : left ≡ suc (left - 1) = omega (arith, h) in ap (λ (k : ℕ). foundAfter g b (walkOf k at s)) e
 
 module _ (t : ℕ) where
   full-of-grids : lts.Need-returns (front-reads.Asked, front-reads.Learnt, walk-below t, walk.Post) (walk-at t) walk.Post
@@ -114,8 +114,8 @@ module _ (t : ℕ) where
   ended c =
       let n = c .before in
       let a = n .before .before .before .before .args in
-      let e : counted (a .grids) (a .blocks) (sound []) ≡ Sound (a .grids) (a .blocks) = simp add-zero in
-      sym (ap (counted (a .grids) (a .blocks)) (walk-end (a .at) (now (a .rest)) (a .left)
+      let e : foundAfter (a .grids) (a .blocks) (sound []) ≡ Sound (a .grids) (a .blocks) = simp add-zero in
+      sym (ap (foundAfter (a .grids) (a .blocks)) (walk-end (a .at) (now (a .rest)) (a .left)
       (sym (n .before .before .front .ensures .answer) ∙ n .enum-told2 .given .1) (omega arith)) ∙ e)
 
   walked-grids : lts.Need-returns-4 (front-reads.Asked, front-reads.Learnt, walk-below t, walk.Post) (walk-at t) walk.Post
@@ -124,9 +124,9 @@ module _ (t : ℕ) where
       let a = n .before .before .before .before .args in
       let s : List ℕ = now (a .rest) in
       c .walk .ensures
-      ∙ ap (λ l. counted (a .grids + n .n .given .0 .0 / 8) (a .blocks) (walkOf (a .left - 1) (a .at + (3 + n .n .given .0 .0)) l))
+      ∙ ap (λ l. foundAfter (a .grids + n .n .given .0 .0 / 8) (a .blocks) (walkOf (a .left - 1) (a .at + (3 + n .n .given .0 .0)) l))
       (part-behind (3 + n .n .given .0 .0) s)
-      ∙ sym (counted-grids-step (a .at) s (a .grids) (a .blocks) (a .left - 1) (n .n .given .0 .0)
+      ∙ sym (after-grids-step (a .at) s (a .grids) (a .blocks) (a .left - 1) (n .n .given .0 .0)
       (sym (n .before .before .front .ensures .answer) ∙ n .n .given .1))
       ∙ sym (one-less (a .grids) (a .blocks) (a .at) (a .left) s (c .before .before .if1 .left))
 
@@ -136,8 +136,8 @@ module _ (t : ℕ) where
       let a = n .before .before .before .before .args in
       let s : List ℕ = now (a .rest) in
       c .walk2 .ensures
-      ∙ ap (λ l. counted (a .grids) (a .blocks + 1) (walkOf (a .left - 1) (a .at + 79) l)) (part-behind 79 s)
-      ∙ sym (counted-block-step (a .at) s (a .grids) (a .blocks) (a .left - 1)
+      ∙ ap (λ l. foundAfter (a .grids) (a .blocks + 1) (walkOf (a .left - 1) (a .at + 79) l)) (part-behind 79 s)
+      ∙ sym (after-block-step (a .at) s (a .grids) (a .blocks) (a .left - 1)
       (sym (n .before .before .front .ensures .answer) ∙ n .enum-told .given .1))
       ∙ sym (one-less (a .grids) (a .blocks) (a .at) (a .left) s (c .before .before .if2 .left))
 
@@ -145,19 +145,19 @@ module _ (t : ℕ) where
   more-behind c =
       let n = c .before in
       let a = n .before .before .before .before .args in
-      sym (ap (counted (a .grids) (a .blocks)) (walk-behind (a .at) (now (a .rest)) (a .left)
+      sym (ap (foundAfter (a .grids) (a .blocks)) (walk-behind (a .at) (now (a .rest)) (a .left)
       (sym (n .before .before .front .ensures .answer) ∙ n .enum-told2 .given .1) (c .if3 .left)))
 
   second-title : lts.Need-returns-7 (front-reads.Asked, front-reads.Learnt, walk-below t, walk.Post) (walk-at t) walk.Post
   second-title c =
       let a = c .before .before .before .before .args in
-      sym (ap (counted (a .grids) (a .blocks)) (walk-title (a .at) (now (a .rest)) (a .left) _
+      sym (ap (foundAfter (a .grids) (a .blocks)) (walk-title (a .at) (now (a .rest)) (a .left) _
       (sym (c .before .before .front .ensures .answer) ∙ c .enum-told3 .given .1)))
 
   rule-fails : lts.Need-returns-8 (front-reads.Asked, front-reads.Learnt, walk-below t, walk.Post) (walk-at t) walk.Post
   rule-fails c =
       let a = c .before .before .before .before .args in
-      sym (ap (counted (a .grids) (a .blocks)) (walk-fails (a .at) (now (a .rest)) (a .left)
+      sym (ap (foundAfter (a .grids) (a .blocks)) (walk-fails (a .at) (now (a .rest)) (a .left)
       (sym (c .before .before .front .ensures .answer) ∙ c .enum-told4 .given .1)))
 
 pub +walk-spec : {M : Type 1} → statement M

@@ -13,9 +13,9 @@ use Rattle.fields.proofs.Fields.{known}
 use Rattle.image.specs.declared.Outcome.the-variants.{Length, Broken}
 use Rattle.image.specs.Card.{Card, Found, walk, cardOf}
 use Rattle.image.specs.Calls.{byFound, judged, counts}
-use Rattle.image.specs.Steps.{counted}
+use Rattle.image.specs.Steps.{foundAfter}
 use Rattle.image.proofs.Judged.{judged-long, judged-as}
-use Rattle.image.proofs.Walking.{card-titled, card-none, counted-whole}
+use Rattle.image.proofs.Walking.{card-titled, card-none, after-whole}
 use Rattle.image.proofs.check.Statement.{statement}
 use Rattle.image.proofs.check.Tie as tie
 
@@ -54,8 +54,8 @@ returns-2 c =
     let e = sym (n .before .before .front .ensures .answer) ∙ n .n .given .1 in
     record {
       answer =
-          c .walk .ensures ∙ ap (λ l. counted 0 0 (walk 16 (3 + k) l)) (part-behind (3 + k) s)
-          ∙ sym (within s (omega arith) (card-titled s k e) ∙ counted-whole (value s) (walk 16 (3 + k) (drop (3 + k) s)));
+          c .walk .ensures ∙ ap (λ l. foundAfter 0 0 (walk 16 (3 + k) l)) (part-behind (3 + k) s)
+          ∙ sym (within s (omega arith) (card-titled s k e) ∙ after-whole (value s) (walk 16 (3 + k) (drop (3 + k) s)));
     }
 
 returns-3 : tie.Need-returns-3

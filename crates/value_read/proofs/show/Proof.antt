@@ -3,7 +3,7 @@ use mathlib.Core.Path.{_≡_, sym, ap, _∙_}
 use Prim.Native.Nat.{ℕ}
 use native.Mathlib.Omega.{arith}
 use borrow.Author.Needs.{needs}
-use Rattle.words.specs.Fields.{joined}
+use Rattle.words.specs.Digits.{joined}
 use Rattle.codes.specs.Verdict.{flipsOf, verdict}
 use Rattle.codes.proofs.Tally.{few-flips}
 use Rattle.grid_code.specs.Code.{gridCode}

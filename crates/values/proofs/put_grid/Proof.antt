@@ -5,7 +5,7 @@ use lib.ListN.{length, length-set}
 use lib.Seq.{sets}
 use denote.Ref.{now}
 use borrow.Author.Needs.{needs}
-use Rattle.words.proofs.Fields.{listed-getD}
+use Rattle.words.proofs.Digits.{listed-getD}
 use Rattle.words.proofs.Turns.{stored}
 use Rattle.values.proofs.put_grid.Statement.{statement}
 use Rattle.values.proofs.put_grid.Tie as tie

@@ -1,13 +1,13 @@
 -- `values::put_word` meets its contract: two stores. Assumes nothing.
 use denote.Ref.{now}
 use borrow.Author.Needs.{needs}
-use Rattle.words.specs.Fields.{fields}
+use Rattle.words.specs.Digits.{digits}
 use Rattle.words.proofs.Turns.{stored}
 use Rattle.values.proofs.put_word.Statement.{statement}
 use Rattle.values.proofs.put_word.Tie as tie
 
 returns : tie.Need-returns
-returns c = stored (fields 8 2 (c .args .word)) (now (c .args .bytes)) (c .pre)
+returns c = stored (digits 8 2 (c .args .word)) (now (c .args .bytes)) (c .pre)
 
 pub put-word-spec : {M : Type 1} → statement M
 put-word-spec =

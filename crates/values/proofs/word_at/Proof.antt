@@ -5,7 +5,7 @@ use native.Mathlib.Omega.{arith}
 use lib.ListN.{getD}
 use denote.Ref.{now}
 use borrow.Author.Needs.{needs}
-use Rattle.words.specs.Fields.{joined}
+use Rattle.words.specs.Digits.{joined}
 use Rattle.words.proofs.Turns.{first}
 use Rattle.values.proofs.word_at.Statement.{statement}
 use Rattle.values.proofs.word_at.Tie as tie

@@ -3,8 +3,8 @@ use mathlib.Core.Path.{_≡_, sym, ap, _∙_, subst}
 use mathlib.Core.List.{List}
 use Prim.Native.Nat.{ℕ, _^_, _<_}
 use borrow.Author.Needs.{needs}
-use Rattle.words.specs.Fields.{fields, joined}
-use Rattle.words.proofs.Fields.{joined-fields}
+use Rattle.words.specs.Digits.{digits, joined}
+use Rattle.words.proofs.Digits.{joined-digits}
 use Rattle.grid_code.specs.Equations.{Codeword}
 use Rattle.grid_code.specs.Code.{codeword}
 use Rattle.grid_code.proofs.Codeword.{is-codeword}
@@ -13,10 +13,10 @@ use Rattle.grid.specs.Calls.{Encoded}
 use Rattle.grid.proofs.Grid.encode.Statement.{statement}
 use Rattle.grid.proofs.Grid.encode.Tie as tie
 
-encoded : (d : ℕ) (rows : List ℕ) → d < 2 ^ 16 → rows ≡ fields 8 8 (codeword d) → Encoded d rows
+encoded : (d : ℕ) (rows : List ℕ) → d < 2 ^ 16 → rows ≡ digits 8 8 (codeword d) → Encoded d rows
 encoded d rows h e = record {
   answer = e;
-  meets = subst (Codeword d) (sym (ap (joined 8) e ∙ joined-fields 8 8 (codeword d) (is-codeword d h .fits))) (is-codeword d h);
+  meets = subst (Codeword d) (sym (ap (joined 8) e ∙ joined-digits 8 8 (codeword d) (is-codeword d h .fits))) (is-codeword d h);
 }
 
 returns : tie.Need-returns
@@ -25,7 +25,7 @@ returns c =
     let l : d < 2 ^ 16 = search needs in (
       encoded d (c .of-number .result .rows) l
           (c .of-number .ensures .answer
-          ∙ ap (fields 8 8) (c .before .completed .ensures d l (c .before .before .data-places .ensures))),
+          ∙ ap (digits 8 8) (c .before .completed .ensures d l (c .before .before .data-places .ensures))),
       promised .constants,
     )
 

@@ -1,4 +1,4 @@
--- `card_read::fields` meets its contract: a grids field, and those behind it. What is left gets shorter. Assumes nothing.
+-- `card_read::read_fields` meets its contract: a grids field, and those behind it. What is left gets shorter. Assumes nothing.
 use mathlib.Core.Path.{_≡_, sym, ap, _∙_, subst}
 use mathlib.Core.List.{List}
 use Prim.Native.Nat.{ℕ, _+_, _-_, _*_, _/_, _<_, _≤_}
@@ -8,7 +8,7 @@ use denote.Ref.{now}
 use borrow.Author.Needs.{needs}
 use borrow.Fn.Kinds.{In}
 use borrow.Fn.PlainCycle.{Measures, is, falls, and}
-use Rattle.words.specs.Fields.{Below}
+use Rattle.words.specs.Digits.{Below}
 use Rattle.words.specs.Bytes.{laid}
 use Rattle.words.proofs.Lists.{part-behind, length-part}
 use Rattle.words.proofs.Bytes.{laid-none}
@@ -22,20 +22,20 @@ use Rattle.value_read.specs.Shown.{dataOfGrid, flipsOfGrid, dataOfGrids, flipsO
 use Rattle.value_read.proofs.grids.Reads as grids-reads
 use Rattle.card_read.specs.Steps.{ReadsFields}
 use Rattle.card_read.proofs.Readings.{counted, whole-grids, read-on}
-use Rattle.card_read.proofs.fields.Reads as fields
-use Rattle.card_read.proofs.fields.Kinds as fields-kinds
-use Rattle.card_read.proofs.+fields.Lts-fields as lts
-use Rattle.card_read.proofs.+fields.{statement}
-use Rattle.card_read.proofs.+fields.Tie.{close}
+use Rattle.card_read.proofs.read_fields.Reads as read-fields
+use Rattle.card_read.proofs.read_fields.Kinds as read-fields-kinds
+use Rattle.card_read.proofs.+read_fields.Lts-read_fields as lts
+use Rattle.card_read.proofs.+read_fields.{statement}
+use Rattle.card_read.proofs.+read_fields.Tie.{close}
 
-abbrev μ-fields : Measures 3 fields-kinds.ps ℕ
-μ-fields κs a = length (a .0 .now)
+abbrev μ-read-fields : Measures 3 read-fields-kinds.ps ℕ
+μ-read-fields κs a = length (a .0 .now)
 
-abbrev fields-at : ℕ → In 3 fields-kinds.ps
-fields-at t = and 3 fields-kinds.ps (is 3 fields-kinds.ps μ-fields t) fields.Pre
+abbrev read-fields-at : ℕ → In 3 read-fields-kinds.ps
+read-fields-at t = and 3 read-fields-kinds.ps (is 3 read-fields-kinds.ps μ-read-fields t) read-fields.Pre
 
-abbrev fields-below : ℕ → In 3 fields-kinds.ps
-fields-below t = and 3 fields-kinds.ps (falls 3 fields-kinds.ps _<_ μ-fields t) fields.Pre
+abbrev read-fields-below : ℕ → In 3 read-fields-kinds.ps
+read-fields-below t = and 3 read-fields-kinds.ps (falls 3 read-fields-kinds.ps _<_ μ-read-fields t) read-fields.Pre
 
 -- room for the grids that are behind
 room-behind : (s numbers flips : List ℕ) (n : ℕ) (r : ReadsFields s numbers flips) → fieldOf s ≡ Grids n
@@ -66,26 +66,26 @@ block-reads-on s numbers flips r f =
     record { walks = block-walks-on s w f; numbers-room = here; flips-room = there }
 
 module _ (t : ℕ) where
-  add-end : lts.Need-add-end (front-reads.Asked, front-reads.Learnt, grids-reads.Asked, grids-reads.Learnt, fields-below t, fields.Post) (fields-at t) fields.Post
+  add-end : lts.Need-add-end (front-reads.Asked, front-reads.Learnt, grids-reads.Asked, grids-reads.Learnt, read-fields-below t, read-fields.Post) (read-fields-at t) read-fields.Post
   add-end c =
       let x = c .before in
       let s = x .before .before .before .before .before .before in
       omega (arith, known (now (s .args .rest)) (sym (x .before .before .front .ensures .answer) ∙ x .n .given .1) .0 .room, s .pre .1 .walks .few)
 
-  grids-end : lts.Need-part-grids-end (front-reads.Asked, front-reads.Learnt, grids-reads.Asked, grids-reads.Learnt, fields-below t, fields.Post) (fields-at t) fields.Post
+  grids-end : lts.Need-part-grids-end (front-reads.Asked, front-reads.Learnt, grids-reads.Asked, grids-reads.Learnt, read-fields-below t, read-fields.Post) (read-fields-at t) read-fields.Post
   grids-end c =
       let x = c .before in
       known (now (x .before .before .before .before .before .before .args .rest)) (sym (x .before .before .front .ensures .answer) ∙ x .n .given .1) .0 .room
 
-  behind-grids : lts.Need-sub-fields (front-reads.Asked, front-reads.Learnt, grids-reads.Asked, grids-reads.Learnt, fields-below t, fields.Post) (fields-at t) fields.Post
+  behind-grids : lts.Need-sub-read-fields (front-reads.Asked, front-reads.Learnt, grids-reads.Asked, grids-reads.Learnt, read-fields-below t, read-fields.Post) (read-fields-at t) read-fields.Post
   behind-grids c =
       let x = c .before .before .before .before .before .before .before .before .before in
       known (now (x .before .before .before .before .before .before .args .rest)) (sym (x .before .before .front .ensures .answer) ∙ x .n .given .1) .0 .room
 
-  from-grids : lts.Need-part-fields-start (front-reads.Asked, front-reads.Learnt, grids-reads.Asked, grids-reads.Learnt, fields-below t, fields.Post) (fields-at t) fields.Post
+  from-grids : lts.Need-part-read-fields-start (front-reads.Asked, front-reads.Learnt, grids-reads.Asked, grids-reads.Learnt, read-fields-below t, read-fields.Post) (read-fields-at t) read-fields.Post
   from-grids c = behind-grids c
 
-  numbers-left : lts.Need-sub-fields-2 (front-reads.Asked, front-reads.Learnt, grids-reads.Asked, grids-reads.Learnt, fields-below t, fields.Post) (fields-at t) fields.Post
+  numbers-left : lts.Need-sub-read-fields-2 (front-reads.Asked, front-reads.Learnt, grids-reads.Asked, grids-reads.Learnt, read-fields-below t, read-fields.Post) (read-fields-at t) read-fields.Post
   numbers-left c =
       let x = c .before .before .before .before .before .before .before .before .before .before in
       let st = x .before .before .before .before .before .before in
@@ -93,10 +93,10 @@ module _ (t : ℕ) where
       let room = room-behind (now (st .args .rest)) (now (st .args .numbers)) (now (st .args .flips)) (x .n .given .0 .0) (st .pre .1) f in
       omega (arith, room, c .before .before .before .before .before .grids .kept .1 .0)
 
-  from-numbers : lts.Need-part-fields-start-2 (front-reads.Asked, front-reads.Learnt, grids-reads.Asked, grids-reads.Learnt, fields-below t, fields.Post) (fields-at t) fields.Post
+  from-numbers : lts.Need-part-read-fields-start-2 (front-reads.Asked, front-reads.Learnt, grids-reads.Asked, grids-reads.Learnt, read-fields-below t, read-fields.Post) (read-fields-at t) read-fields.Post
   from-numbers c = numbers-left c
 
-  flips-left : lts.Need-sub-fields-3 (front-reads.Asked, front-reads.Learnt, grids-reads.Asked, grids-reads.Learnt, fields-below t, fields.Post) (fields-at t) fields.Post
+  flips-left : lts.Need-sub-read-fields-3 (front-reads.Asked, front-reads.Learnt, grids-reads.Asked, grids-reads.Learnt, read-fields-below t, read-fields.Post) (read-fields-at t) read-fields.Post
   flips-left c =
       let x = c .before .before .before .before .before .before .before .before .before .before .before in
       let st = x .before .before .before .before .before .before in
@@ -104,10 +104,10 @@ module _ (t : ℕ) where
       let room = room-behind (now (st .args .rest)) (now (st .args .numbers)) (now (st .args .flips)) (x .n .given .0 .0) (st .pre .1) f in
       omega (arith, room, c .before .before .before .before .before .before .grids .kept .1 .1 .0)
 
-  from-flips : lts.Need-part-fields-start-3 (front-reads.Asked, front-reads.Learnt, grids-reads.Asked, grids-reads.Learnt, fields-below t, fields.Post) (fields-at t) fields.Post
+  from-flips : lts.Need-part-read-fields-start-3 (front-reads.Asked, front-reads.Learnt, grids-reads.Asked, grids-reads.Learnt, read-fields-below t, read-fields.Post) (read-fields-at t) read-fields.Post
   from-flips c = flips-left c
 
-  grids-walk : lts.Need-fields-requires (front-reads.Asked, front-reads.Learnt, grids-reads.Asked, grids-reads.Learnt, fields-below t, fields.Post) (fields-at t) fields.Post
+  grids-walk : lts.Need-read-fields-requires (front-reads.Asked, front-reads.Learnt, grids-reads.Asked, grids-reads.Learnt, read-fields-below t, read-fields.Post) (read-fields-at t) read-fields.Post
   grids-walk c κs =
       let x = c .before .before .before .before .before .before .before .before .before .before .before .before in
       let st = x .before .before .before .before .before .before in
@@ -125,13 +125,13 @@ module _ (t : ℕ) where
             (length-part (n / 8) (grids .last .1 .1 .0) ∙ ap (λ (m : ℕ). m - n / 8) (grids .kept .1 .1 .0))),
       )
 
-  behind-block : lts.Need-sub-fields-4 (front-reads.Asked, front-reads.Learnt, grids-reads.Asked, grids-reads.Learnt, fields-below t, fields.Post) (fields-at t) fields.Post
+  behind-block : lts.Need-sub-read-fields-4 (front-reads.Asked, front-reads.Learnt, grids-reads.Asked, grids-reads.Learnt, read-fields-below t, read-fields.Post) (read-fields-at t) read-fields.Post
   behind-block c = known (now (c .before .before .before .before .before .before .args .rest)) (sym (c .before .before .front .ensures .answer) ∙ c .enum-told .given .1) .room
 
-  from-block : lts.Need-part-fields-start-4 (front-reads.Asked, front-reads.Learnt, grids-reads.Asked, grids-reads.Learnt, fields-below t, fields.Post) (fields-at t) fields.Post
+  from-block : lts.Need-part-read-fields-start-4 (front-reads.Asked, front-reads.Learnt, grids-reads.Asked, grids-reads.Learnt, read-fields-below t, read-fields.Post) (read-fields-at t) read-fields.Post
   from-block c = behind-block c
 
-  block-walk : lts.Need-fields-requires-2 (front-reads.Asked, front-reads.Learnt, grids-reads.Asked, grids-reads.Learnt, fields-below t, fields.Post) (fields-at t) fields.Post
+  block-walk : lts.Need-read-fields-requires-2 (front-reads.Asked, front-reads.Learnt, grids-reads.Asked, grids-reads.Learnt, read-fields-below t, read-fields.Post) (read-fields-at t) read-fields.Post
   block-walk c κs =
       let x = c .before .before .before in
       let st = x .before .before .before .before .before .before in
@@ -142,7 +142,7 @@ module _ (t : ℕ) where
             (block-reads-on s (now (st .args .numbers)) (now (st .args .flips)) (st .pre .1) f),
       )
 
-  with-grids : lts.Need-returns (front-reads.Asked, front-reads.Learnt, grids-reads.Asked, grids-reads.Learnt, fields-below t, fields.Post) (fields-at t) fields.Post
+  with-grids : lts.Need-returns (front-reads.Asked, front-reads.Learnt, grids-reads.Asked, grids-reads.Learnt, read-fields-below t, read-fields.Post) (read-fields-at t) read-fields.Post
   with-grids c =
       let x = c .before .before .before .before .before .before .before .before .before .before .before .before .before .before .before .before .before in
       let st = x .before .before .before .before .before .before in
@@ -151,7 +151,7 @@ module _ (t : ℕ) where
       let f = sym (x .before .before .front .ensures .answer) ∙ x .n .given .1 in
       let k = known s f .0 in
       let grids = c .before .before .before .before .before .before .before .before .before .before .before .before .grids in
-      let rest = c .before .before .before .before .fields in
+      let rest = c .before .before .before .before .read-fields in
       let part = value-is s n (k .size-is) in
       let room = room-behind s (now (st .args .numbers)) (now (st .args .flips)) n (st .pre .1) f in
       let long = value-long s n (k .room) in
@@ -169,13 +169,13 @@ module _ (t : ℕ) where
             (rest .last .1 .1 .0) part (room .1) (read .flips-after) (rest .ensures .flips-after (less left) (at + (3 + n)) (front .behind) found);
       }
 
-  past-block : lts.Need-returns-2 (front-reads.Asked, front-reads.Learnt, grids-reads.Asked, grids-reads.Learnt, fields-below t, fields.Post) (fields-at t) fields.Post
+  past-block : lts.Need-returns-2 (front-reads.Asked, front-reads.Learnt, grids-reads.Asked, grids-reads.Learnt, read-fields-below t, read-fields.Post) (read-fields-at t) read-fields.Post
   past-block c =
       let x = c .before .before .before .before .before .before .before .before in
       let st = x .before .before .before .before .before .before in
       let s = now (st .args .rest) in
       let f = sym (x .before .before .front .ensures .answer) ∙ x .enum-told .given .1 in
-      let rest = c .before .before .before .before .fields2 in
+      let rest = c .before .before .before .before .read-fields2 in
       record {
         numbers-after = λ left at ps w.
             let front = block-front at s ps left f w in
@@ -189,7 +189,7 @@ module _ (t : ℕ) where
             ∙ ap (λ ps. laid (flipsOfGrids (gridsIn ps)) (now (st .args .flips))) (sym (front .is));
       }
 
-  at-end : lts.Need-returns-3 (front-reads.Asked, front-reads.Learnt, grids-reads.Asked, grids-reads.Learnt, fields-below t, fields.Post) (fields-at t) fields.Post
+  at-end : lts.Need-returns-3 (front-reads.Asked, front-reads.Learnt, grids-reads.Asked, grids-reads.Learnt, read-fields-below t, read-fields.Post) (read-fields-at t) read-fields.Post
   at-end c =
       let st = c .before .before .before .before .before in
       let s = now (st .args .rest) in
@@ -204,9 +204,9 @@ module _ (t : ℕ) where
             laid-none (now (st .args .flips)) ∙ ap (λ ps. laid (flipsOfGrids (gridsIn ps)) (now (st .args .flips))) (sym (only .0));
       }
 
-pub +fields-spec : {M : Type 1} → statement M
-+fields-spec =
-    close μ-fields λ t. lts.spec (front-reads.Asked, front-reads.Learnt, grids-reads.Asked, grids-reads.Learnt, fields-below t, fields.Post) (fields-at t) fields.Post
+pub +read-fields-spec : {M : Type 1} → statement M
++read-fields-spec =
+    close μ-read-fields λ t. lts.spec (front-reads.Asked, front-reads.Learnt, grids-reads.Asked, grids-reads.Learnt, read-fields-below t, read-fields.Post) (read-fields-at t) read-fields.Post
     (λ c κs. search needs) (λ c. search needs) (add-end t) (λ c. search needs) (λ c. search needs) (grids-end t) (λ c κs. search needs)
     (behind-grids t) (from-grids t) (λ c. search needs) (λ c. search needs) (numbers-left t) (from-numbers t) (λ c. search needs)
     (flips-left t) (from-flips t) (λ c. search needs) (grids-walk t) (λ c. search needs) (behind-block t) (from-block t)

@@ -1,4 +1,4 @@
--- `card_scrub::fields` meets its contract: a data field, and those behind it. What is left gets shorter. Assumes nothing.
+-- `card_scrub::scrub_fields` meets its contract: a data field, and those behind it. What is left gets shorter. Assumes nothing.
 use mathlib.Core.Path.{_≡_, refl, sym, ap, _∙_, subst}
 use mathlib.Core.List.{List, _++_, map}
 use Prim.Native.Nat.{ℕ, _+_, _-_, _%_, _≤_, _<_}
@@ -8,7 +8,7 @@ use denote.Ref.{now}
 use borrow.Author.Needs.{needs}
 use borrow.Fn.Kinds.{In}
 use borrow.Fn.PlainCycle.{Measures, is, falls, and}
-use Rattle.words.specs.Fields.{Below}
+use Rattle.words.specs.Digits.{Below}
 use Rattle.codes.specs.Tally.{sumBy}
 use Rattle.fields.specs.declared.Field.the-variants.{Grids}
 use Rattle.fields.specs.Fields.{fieldOf}
@@ -25,21 +25,21 @@ use Rattle.value_scrub.proofs.no_grids.Reads as no-grids-reads
 use Rattle.card_scrub.specs.Calls.{scrubbedPart, talliesOf}
 use Rattle.card_scrub.specs.Steps.{ScrubbedFields}
 use Rattle.card_scrub.proofs.Parts.{behind-it, put-together, same-long, grids-scrubbed, block-scrubbed, grids-together, blocks-together}
-use Rattle.card_scrub.proofs.fields.Reads as fields
-use Rattle.card_scrub.proofs.fields.Kinds as fields-kinds
-use Rattle.card_scrub.proofs.+fields.Lts-fields as lts
+use Rattle.card_scrub.proofs.scrub_fields.Reads as scrub-fields
+use Rattle.card_scrub.proofs.scrub_fields.Kinds as scrub-fields-kinds
+use Rattle.card_scrub.proofs.+scrub_fields.Lts-scrub_fields as lts
 use Rattle.card_scrub.proofs.with_block.Reads as with-block-reads
-use Rattle.card_scrub.proofs.+fields.{statement}
-use Rattle.card_scrub.proofs.+fields.Tie.{close}
+use Rattle.card_scrub.proofs.+scrub_fields.{statement}
+use Rattle.card_scrub.proofs.+scrub_fields.Tie.{close}
 
-abbrev μ-fields : Measures 1 fields-kinds.ps ℕ
-μ-fields κs a = length (a .0 .now)
+abbrev μ-scrub-fields : Measures 1 scrub-fields-kinds.ps ℕ
+μ-scrub-fields κs a = length (a .0 .now)
 
-abbrev fields-at : ℕ → In 1 fields-kinds.ps
-fields-at t = and 1 fields-kinds.ps (is 1 fields-kinds.ps μ-fields t) fields.Pre
+abbrev scrub-fields-at : ℕ → In 1 scrub-fields-kinds.ps
+scrub-fields-at t = and 1 scrub-fields-kinds.ps (is 1 scrub-fields-kinds.ps μ-scrub-fields t) scrub-fields.Pre
 
-abbrev fields-below : ℕ → In 1 fields-kinds.ps
-fields-below t = and 1 fields-kinds.ps (falls 1 fields-kinds.ps _<_ μ-fields t) fields.Pre
+abbrev scrub-fields-below : ℕ → In 1 scrub-fields-kinds.ps
+scrub-fields-below t = and 1 scrub-fields-kinds.ps (falls 1 scrub-fields-kinds.ps _<_ μ-scrub-fields t) scrub-fields.Pre
 
 -- the value of a grids field fits
 grids-fit : (s : List ℕ) (n : ℕ) → fieldOf s ≡ Grids n → (length (take (3 + n - 3) (drop 3 s)) ≤ 4096) × (length (take (3 + n - 3) (drop 3 s)) % 8 ≡ 0)
@@ -49,20 +49,20 @@ grids-fit s n f =
     (omega (arith, long, grids-size n (k .1)), omega (arith, long, grids-size n (k .1)))
 
 module _ (t : ℕ) where
-  add-end : lts.Need-add-end (front-reads.Asked, front-reads.Learnt, grids-reads.Asked, grids-reads.Learnt, fields-below t, fields.Post, both-reads.Asked, both-reads.Learnt, block-reads.Asked, block-reads.Learnt, with-block-reads.Asked, with-block-reads.Learnt, no-grids-reads.Asked, no-grids-reads.Learnt, no-blocks-reads.Asked, no-blocks-reads.Learnt) (fields-at t) fields.Post
+  add-end : lts.Need-add-end (front-reads.Asked, front-reads.Learnt, grids-reads.Asked, grids-reads.Learnt, scrub-fields-below t, scrub-fields.Post, both-reads.Asked, both-reads.Learnt, block-reads.Asked, block-reads.Learnt, with-block-reads.Asked, with-block-reads.Learnt, no-grids-reads.Asked, no-grids-reads.Learnt, no-blocks-reads.Asked, no-blocks-reads.Learnt) (scrub-fields-at t) scrub-fields.Post
   add-end c =
       let x = c .before in
       let s = x .before .before .before .before .before in
       let f = sym (x .before .before .front .ensures .answer) ∙ x .n .given .1 in
       omega (arith, known (now (s .args .rest)) f .0 .room, s .pre .1 .few)
 
-  grids-end : lts.Need-part-grids-end (front-reads.Asked, front-reads.Learnt, grids-reads.Asked, grids-reads.Learnt, fields-below t, fields.Post, both-reads.Asked, both-reads.Learnt, block-reads.Asked, block-reads.Learnt, with-block-reads.Asked, with-block-reads.Learnt, no-grids-reads.Asked, no-grids-reads.Learnt, no-blocks-reads.Asked, no-blocks-reads.Learnt) (fields-at t) fields.Post
+  grids-end : lts.Need-part-grids-end (front-reads.Asked, front-reads.Learnt, grids-reads.Asked, grids-reads.Learnt, scrub-fields-below t, scrub-fields.Post, both-reads.Asked, both-reads.Learnt, block-reads.Asked, block-reads.Learnt, with-block-reads.Asked, with-block-reads.Learnt, no-grids-reads.Asked, no-grids-reads.Learnt, no-blocks-reads.Asked, no-blocks-reads.Learnt) (scrub-fields-at t) scrub-fields.Post
   grids-end c =
       let x = c .before in
       let s = x .before .before .before .before .before in
       known (now (s .args .rest)) (sym (x .before .before .front .ensures .answer) ∙ x .n .given .1) .0 .room
 
-  behind-grids : lts.Need-sub-fields (front-reads.Asked, front-reads.Learnt, grids-reads.Asked, grids-reads.Learnt, fields-below t, fields.Post, both-reads.Asked, both-reads.Learnt, block-reads.Asked, block-reads.Learnt, with-block-reads.Asked, with-block-reads.Learnt, no-grids-reads.Asked, no-grids-reads.Learnt, no-blocks-reads.Asked, no-blocks-reads.Learnt) (fields-at t) fields.Post
+  behind-grids : lts.Need-sub-scrub-fields (front-reads.Asked, front-reads.Learnt, grids-reads.Asked, grids-reads.Learnt, scrub-fields-below t, scrub-fields.Post, both-reads.Asked, both-reads.Learnt, block-reads.Asked, block-reads.Learnt, with-block-reads.Asked, with-block-reads.Learnt, no-grids-reads.Asked, no-grids-reads.Learnt, no-blocks-reads.Asked, no-blocks-reads.Learnt) (scrub-fields-at t) scrub-fields.Post
   behind-grids c =
       let x = c .before .before .before .before .before in
       let s = now (x .before .before .before .before .before .args .rest) in
@@ -72,10 +72,10 @@ module _ (t : ℕ) where
       let long = same-long n (3 + n - 3) s (field .last .0) (k .room) (field .kept .0 ∙ value-long s n (k .room)) (omega arith) in
       omega (arith, long, k .room)
 
-  from-grids : lts.Need-part-fields-start (front-reads.Asked, front-reads.Learnt, grids-reads.Asked, grids-reads.Learnt, fields-below t, fields.Post, both-reads.Asked, both-reads.Learnt, block-reads.Asked, block-reads.Learnt, with-block-reads.Asked, with-block-reads.Learnt, no-grids-reads.Asked, no-grids-reads.Learnt, no-blocks-reads.Asked, no-blocks-reads.Learnt) (fields-at t) fields.Post
+  from-grids : lts.Need-part-scrub-fields-start (front-reads.Asked, front-reads.Learnt, grids-reads.Asked, grids-reads.Learnt, scrub-fields-below t, scrub-fields.Post, both-reads.Asked, both-reads.Learnt, block-reads.Asked, block-reads.Learnt, with-block-reads.Asked, with-block-reads.Learnt, no-grids-reads.Asked, no-grids-reads.Learnt, no-blocks-reads.Asked, no-blocks-reads.Learnt) (scrub-fields-at t) scrub-fields.Post
   from-grids c = behind-grids c
 
-  grids-walk : lts.Need-fields-requires (front-reads.Asked, front-reads.Learnt, grids-reads.Asked, grids-reads.Learnt, fields-below t, fields.Post, both-reads.Asked, both-reads.Learnt, block-reads.Asked, block-reads.Learnt, with-block-reads.Asked, with-block-reads.Learnt, no-grids-reads.Asked, no-grids-reads.Learnt, no-blocks-reads.Asked, no-blocks-reads.Learnt) (fields-at t) fields.Post
+  grids-walk : lts.Need-scrub-fields-requires (front-reads.Asked, front-reads.Learnt, grids-reads.Asked, grids-reads.Learnt, scrub-fields-below t, scrub-fields.Post, both-reads.Asked, both-reads.Learnt, block-reads.Asked, block-reads.Learnt, with-block-reads.Asked, with-block-reads.Learnt, no-grids-reads.Asked, no-grids-reads.Learnt, no-blocks-reads.Asked, no-blocks-reads.Learnt) (scrub-fields-at t) scrub-fields.Post
   grids-walk c κs =
       let x = c .before .before .before .before .before .before in
       let st = x .before .before .before .before .before in
@@ -87,12 +87,12 @@ module _ (t : ℕ) where
       let is = behind-it n (3 + n - 3) s (field .last .0) (k .room) (field .kept .0 ∙ value-long s n (k .room)) (omega arith) in
       (omega (arith, ap length is, length-drop (3 + n) s, st .pre .0, k .room), subst Walks (sym is) (walks-on s n (st .pre .1) f))
 
-  block-end : lts.Need-part-block-end (front-reads.Asked, front-reads.Learnt, grids-reads.Asked, grids-reads.Learnt, fields-below t, fields.Post, both-reads.Asked, both-reads.Learnt, block-reads.Asked, block-reads.Learnt, with-block-reads.Asked, with-block-reads.Learnt, no-grids-reads.Asked, no-grids-reads.Learnt, no-blocks-reads.Asked, no-blocks-reads.Learnt) (fields-at t) fields.Post
+  block-end : lts.Need-part-block-end (front-reads.Asked, front-reads.Learnt, grids-reads.Asked, grids-reads.Learnt, scrub-fields-below t, scrub-fields.Post, both-reads.Asked, both-reads.Learnt, block-reads.Asked, block-reads.Learnt, with-block-reads.Asked, with-block-reads.Learnt, no-grids-reads.Asked, no-grids-reads.Learnt, no-blocks-reads.Asked, no-blocks-reads.Learnt) (scrub-fields-at t) scrub-fields.Post
   block-end c =
       let s = now (c .before .before .before .before .before .args .rest) in
       known s (sym (c .before .before .front .ensures .answer) ∙ c .enum-told .given .1) .room
 
-  behind-block : lts.Need-sub-fields-2 (front-reads.Asked, front-reads.Learnt, grids-reads.Asked, grids-reads.Learnt, fields-below t, fields.Post, both-reads.Asked, both-reads.Learnt, block-reads.Asked, block-reads.Learnt, with-block-reads.Asked, with-block-reads.Learnt, no-grids-reads.Asked, no-grids-reads.Learnt, no-blocks-reads.Asked, no-blocks-reads.Learnt) (fields-at t) fields.Post
+  behind-block : lts.Need-sub-scrub-fields-2 (front-reads.Asked, front-reads.Learnt, grids-reads.Asked, grids-reads.Learnt, scrub-fields-below t, scrub-fields.Post, both-reads.Asked, both-reads.Learnt, block-reads.Asked, block-reads.Learnt, with-block-reads.Asked, with-block-reads.Learnt, no-grids-reads.Asked, no-grids-reads.Learnt, no-blocks-reads.Asked, no-blocks-reads.Learnt) (scrub-fields-at t) scrub-fields.Post
   behind-block c =
       let x = c .before .before .before .before in
       let s = now (x .before .before .before .before .before .args .rest) in
@@ -101,10 +101,10 @@ module _ (t : ℕ) where
       let long = same-long 76 76 s (field .last .0) (k .room) (field .kept .0 ∙ value-long s 76 (k .room)) refl in
       omega (arith, long, k .room)
 
-  from-block : lts.Need-part-fields-start-2 (front-reads.Asked, front-reads.Learnt, grids-reads.Asked, grids-reads.Learnt, fields-below t, fields.Post, both-reads.Asked, both-reads.Learnt, block-reads.Asked, block-reads.Learnt, with-block-reads.Asked, with-block-reads.Learnt, no-grids-reads.Asked, no-grids-reads.Learnt, no-blocks-reads.Asked, no-blocks-reads.Learnt) (fields-at t) fields.Post
+  from-block : lts.Need-part-scrub-fields-start-2 (front-reads.Asked, front-reads.Learnt, grids-reads.Asked, grids-reads.Learnt, scrub-fields-below t, scrub-fields.Post, both-reads.Asked, both-reads.Learnt, block-reads.Asked, block-reads.Learnt, with-block-reads.Asked, with-block-reads.Learnt, no-grids-reads.Asked, no-grids-reads.Learnt, no-blocks-reads.Asked, no-blocks-reads.Learnt) (scrub-fields-at t) scrub-fields.Post
   from-block c = behind-block c
 
-  block-walk : lts.Need-fields-requires-2 (front-reads.Asked, front-reads.Learnt, grids-reads.Asked, grids-reads.Learnt, fields-below t, fields.Post, both-reads.Asked, both-reads.Learnt, block-reads.Asked, block-reads.Learnt, with-block-reads.Asked, with-block-reads.Learnt, no-grids-reads.Asked, no-grids-reads.Learnt, no-blocks-reads.Asked, no-blocks-reads.Learnt) (fields-at t) fields.Post
+  block-walk : lts.Need-scrub-fields-requires-2 (front-reads.Asked, front-reads.Learnt, grids-reads.Asked, grids-reads.Learnt, scrub-fields-below t, scrub-fields.Post, both-reads.Asked, both-reads.Learnt, block-reads.Asked, block-reads.Learnt, with-block-reads.Asked, with-block-reads.Learnt, no-grids-reads.Asked, no-grids-reads.Learnt, no-blocks-reads.Asked, no-blocks-reads.Learnt) (scrub-fields-at t) scrub-fields.Post
   block-walk c κs =
       let x = c .before .before .before .before .before in
       let st = x .before .before .before .before .before in
@@ -115,7 +115,7 @@ module _ (t : ℕ) where
       let is = behind-it 76 76 s (field .last .0) (k .room) (field .kept .0 ∙ value-long s 76 (k .room)) refl in
       (omega (arith, ap length is, length-drop 79 s, st .pre .0, k .room), subst Walks (sym is) (block-walks-on s (st .pre .1) f))
 
-  block-room : lts.Need-with-block-requires (front-reads.Asked, front-reads.Learnt, grids-reads.Asked, grids-reads.Learnt, fields-below t, fields.Post, both-reads.Asked, both-reads.Learnt, block-reads.Asked, block-reads.Learnt, with-block-reads.Asked, with-block-reads.Learnt, no-grids-reads.Asked, no-grids-reads.Learnt, no-blocks-reads.Asked, no-blocks-reads.Learnt) (fields-at t) fields.Post
+  block-room : lts.Need-with-block-requires (front-reads.Asked, front-reads.Learnt, grids-reads.Asked, grids-reads.Learnt, scrub-fields-below t, scrub-fields.Post, both-reads.Asked, both-reads.Learnt, block-reads.Asked, block-reads.Learnt, with-block-reads.Asked, with-block-reads.Learnt, no-grids-reads.Asked, no-grids-reads.Learnt, no-blocks-reads.Asked, no-blocks-reads.Learnt) (scrub-fields-at t) scrub-fields.Post
   block-room c κs =
       let x = c .before .before .before .before .before .before .before .before in
       let st = x .before .before .before .before .before in
@@ -123,12 +123,12 @@ module _ (t : ℕ) where
       let f = sym (x .before .before .front .ensures .answer) ∙ x .enum-told .given .1 in
       let k = known s f in
       let field = c .before .before .before .before .before .before .block in
-      let rest = c .before .before .fields2 in
+      let rest = c .before .before .scrub-fields2 in
       let is = behind-it 76 76 s (field .last .0) (k .room) (field .kept .0 ∙ value-long s 76 (k .room)) refl in
       blocks-together s (take 76 (drop 3 s)) (field .last .0) (rest .last .0) (field .result) (rest .result) (st .pre .1) f (field .ensures (value-long s 76 (k .room)))
       (subst (λ l. ScrubbedFields l (rest .result) (rest .last .0)) is (rest .ensures))
 
-  with-grids : lts.Need-returns (front-reads.Asked, front-reads.Learnt, grids-reads.Asked, grids-reads.Learnt, fields-below t, fields.Post, both-reads.Asked, both-reads.Learnt, block-reads.Asked, block-reads.Learnt, with-block-reads.Asked, with-block-reads.Learnt, no-grids-reads.Asked, no-grids-reads.Learnt, no-blocks-reads.Asked, no-blocks-reads.Learnt) (fields-at t) fields.Post
+  with-grids : lts.Need-returns (front-reads.Asked, front-reads.Learnt, grids-reads.Asked, grids-reads.Learnt, scrub-fields-below t, scrub-fields.Post, both-reads.Asked, both-reads.Learnt, block-reads.Asked, block-reads.Learnt, with-block-reads.Asked, with-block-reads.Learnt, no-grids-reads.Asked, no-grids-reads.Learnt, no-blocks-reads.Asked, no-blocks-reads.Learnt) (scrub-fields-at t) scrub-fields.Post
   with-grids c =
       let x = c .before .before .before .before .before .before .before .before .before .before .before .before in
       let st = x .before .before .before .before .before in
@@ -137,7 +137,7 @@ module _ (t : ℕ) where
       let f = sym (x .before .before .front .ensures .answer) ∙ x .n .given .1 in
       let k = known s f .0 in
       let field = c .before .before .before .before .before .before .before .before .before .grids in
-      let rest = c .before .before .before .before .before .fields in
+      let rest = c .before .before .before .before .before .scrub-fields in
       let long = field .kept .0 ∙ value-long s n (k .room) in
       let is = behind-it n (3 + n - 3) s (field .last .0) (k .room) long (omega arith) in
       let part = take (3 + n - 3) (drop 3 s) in
@@ -153,14 +153,14 @@ module _ (t : ℕ) where
         after = λ left at ps w. put-together n (3 + n - 3) s (field .last .0) (k .room) long (omega arith) (rest .last .0) ∙ all .after left at ps w;
       }
 
-  with-block : lts.Need-returns-2 (front-reads.Asked, front-reads.Learnt, grids-reads.Asked, grids-reads.Learnt, fields-below t, fields.Post, both-reads.Asked, both-reads.Learnt, block-reads.Asked, block-reads.Learnt, with-block-reads.Asked, with-block-reads.Learnt, no-grids-reads.Asked, no-grids-reads.Learnt, no-blocks-reads.Asked, no-blocks-reads.Learnt) (fields-at t) fields.Post
+  with-block : lts.Need-returns-2 (front-reads.Asked, front-reads.Learnt, grids-reads.Asked, grids-reads.Learnt, scrub-fields-below t, scrub-fields.Post, both-reads.Asked, both-reads.Learnt, block-reads.Asked, block-reads.Learnt, with-block-reads.Asked, with-block-reads.Learnt, no-grids-reads.Asked, no-grids-reads.Learnt, no-blocks-reads.Asked, no-blocks-reads.Learnt) (scrub-fields-at t) scrub-fields.Post
   with-block c =
       let x = c .before .before .before .before .before .before .before .before .before in
       let s = now (x .before .before .before .before .before .args .rest) in
       let f = sym (x .before .before .front .ensures .answer) ∙ x .enum-told .given .1 in
       let k = known s f in
       let field = c .before .before .before .before .before .before .before .block in
-      let rest = c .before .before .before .fields2 in
+      let rest = c .before .before .before .scrub-fields2 in
       let long = field .kept .0 ∙ value-long s 76 (k .room) in
       let is = behind-it 76 76 s (field .last .0) (k .room) long refl in
       let all =
@@ -172,7 +172,7 @@ module _ (t : ℕ) where
         after = λ left at ps w. put-together 76 76 s (field .last .0) (k .room) long refl (rest .last .0) ∙ all .after left at ps w;
       }
 
-  at-end : lts.Need-returns-3 (front-reads.Asked, front-reads.Learnt, grids-reads.Asked, grids-reads.Learnt, fields-below t, fields.Post, both-reads.Asked, both-reads.Learnt, block-reads.Asked, block-reads.Learnt, with-block-reads.Asked, with-block-reads.Learnt, no-grids-reads.Asked, no-grids-reads.Learnt, no-blocks-reads.Asked, no-blocks-reads.Learnt) (fields-at t) fields.Post
+  at-end : lts.Need-returns-3 (front-reads.Asked, front-reads.Learnt, grids-reads.Asked, grids-reads.Learnt, scrub-fields-below t, scrub-fields.Post, both-reads.Asked, both-reads.Learnt, block-reads.Asked, block-reads.Learnt, with-block-reads.Asked, with-block-reads.Learnt, no-grids-reads.Asked, no-grids-reads.Learnt, no-blocks-reads.Asked, no-blocks-reads.Learnt) (scrub-fields-at t) scrub-fields.Post
   unfolding sumBy partsBytes
   at-end c =
       let s = now (c .before .before .before .before .before .before .args .rest) in
@@ -187,9 +187,9 @@ module _ (t : ℕ) where
             only .1 ∙ ap (λ ps. partsBytes (map scrubbedPart ps) ++ head 127 0) (sym (only .0));
       }
 
-pub +fields-spec : {M : Type 1} → statement M
-+fields-spec =
-    close μ-fields λ t. lts.spec (front-reads.Asked, front-reads.Learnt, grids-reads.Asked, grids-reads.Learnt, fields-below t, fields.Post, both-reads.Asked, both-reads.Learnt, block-reads.Asked, block-reads.Learnt, with-block-reads.Asked, with-block-reads.Learnt, no-grids-reads.Asked, no-grids-reads.Learnt, no-blocks-reads.Asked, no-blocks-reads.Learnt) (fields-at t) fields.Post
+pub +scrub-fields-spec : {M : Type 1} → statement M
++scrub-fields-spec =
+    close μ-scrub-fields λ t. lts.spec (front-reads.Asked, front-reads.Learnt, grids-reads.Asked, grids-reads.Learnt, scrub-fields-below t, scrub-fields.Post, both-reads.Asked, both-reads.Learnt, block-reads.Asked, block-reads.Learnt, with-block-reads.Asked, with-block-reads.Learnt, no-grids-reads.Asked, no-grids-reads.Learnt, no-blocks-reads.Asked, no-blocks-reads.Learnt) (scrub-fields-at t) scrub-fields.Post
     (λ c κs. search needs) (λ c. search needs) (add-end t) (λ c. search needs) (λ c. search needs) (grids-end t) (λ c κs. search needs)
     (behind-grids t) (from-grids t) (λ c. search needs) (grids-walk t) (λ c κs. search needs) (λ c. search needs) (λ c. search needs)
     (λ c. search needs) (block-end t) (λ c κs. search needs) (behind-block t) (from-block t) (λ c. search needs) (block-walk t)
