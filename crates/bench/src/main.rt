@@ -1,6 +1,8 @@
 // The bench of the open day: reads a card image from standard input, scrubs it in memory, and prints the title and the two tallies, or the
 // one line of a refusal. The work is in the library; this prints.
 use card::Blocks;
+use card::Place;
+use card::Refusal;
 use card::ScrubAnswer;
 use libc::STDIN_FILENO;
 use libc::STDOUT_FILENO;
@@ -37,17 +39,24 @@ fn blocks(t: Blocks) {
     line(b"blocks ", t.blocks, t.clean, t.mended, t.lost, t.flips);
 }
 
+// The number of a refusal, and its place, if there is one.
+fn refused(why: Refusal) {
+    text(b"refused ");
+    number(why.number() as u64);
+    match why.place() {
+        Place::At(at) => {
+            text(b" at ");
+            number(at as u64);
+        }
+        Place::Nowhere => {}
+    }
+    text(b"\n");
+}
+
 // What a scrub of the image prints.
 fn show(image: &mut [u8]) {
     match card::scrub(image) {
-        ScrubAnswer::Length => {
-            text(b"refused 3\n");
-        }
-        ScrubAnswer::Broken(at) => {
-            text(b"refused 4 at ");
-            number(at as u64);
-            text(b"\n");
-        }
+        ScrubAnswer::Refused(why) => refused(why),
         ScrubAnswer::Done(t) => {
             let of_grids = t.grids;
             let of_blocks = t.blocks;
@@ -62,7 +71,7 @@ fn show(image: &mut [u8]) {
 
 // One byte more than the longest image is read, so that a longer one is told from it.
 fn main() {
-    let mut buffer = [0u8; 32769];
+    let mut buffer = [0u8; image::MOST_BYTES + 1];
     let n = io::read_full(STDIN_FILENO, &mut buffer);
     show(&mut buffer[..n]);
 }

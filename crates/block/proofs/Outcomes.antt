@@ -19,6 +19,7 @@ use Rattle.words.proofs.Dist.{dist-self, dist-sym, dist-flips, dist-ones}
 use Rattle.words.proofs.Digits.{digits-joined, joined-digits, joined-lt}
 use Rattle.words.proofs.Ones.{ones-pow, ones-two, AtMostTwo, at-most-two}
 use Rattle.words.proofs.Xor.{xor-assoc}
+use Rattle.refusals.specs.declared.Refusal.the-variants.{LostBlock, Length}
 use Rattle.codes.specs.Verdict.{Verdict, clean, mended, lost, answered, off, verdict, repaired, scrubbed}
 use Rattle.codes.proofs.Promises.{found, none-near}
 use Rattle.block_code.specs.Code.{codeword, blockCode}
@@ -29,10 +30,11 @@ use Rattle.block_code.proofs.Equations.{meets}
 use Rattle.block_code.proofs.Mixing.{mixed-self, mixed-none}
 use Rattle.block_code.proofs.Syndromes.{syndrome-sum, syndrome-zero, syndrome-codeword, codeword-of, codeword-lt}
 use Rattle.block_flips.specs.Steps.{Unexplained}
-use Rattle.block.specs.Answer.{answerOf, encodeNumberOf}
+use Rattle.block.specs.Answer.{answerOf}
 use Rattle.block.specs.Calls.{allowed, Encoded, Scrubbed}
-use Rattle.block.specs.declared.Outcome.the-variants.{Clean, Mended, Lost, Length}
-use Rattle.block.specs.declared.Written.the-variants.{Done, Length as OtherLength}
+use Rattle.block.specs.declared.EncodeAnswer.the-variants.{Done as Written, Refused as NotWritten}
+use Rattle.block.specs.declared.BlockVerdict.the-variants.{Clean, Mended}
+use Rattle.block.specs.declared.BlockAnswer.the-variants.{Done, Refused}
 
 -- ---- a codeword within two places
 
@@ -64,14 +66,14 @@ module _ (ws : List ℕ) (b : IsBlock ws) where
   scrubs : (v : Verdict) (exit : List ℕ) → verdict blockCode w ≡ v → exit ≡ digits 16 38 (repaired blockCode w v)
       → Scrubbed ws (answerOf v) exit
   scrubs v exit e x = record {
-    answer = sym (ap (λ (t : Bool). choose t (answerOf (verdict blockCode w)) Length) right-length ∙ ap answerOf e);
+    answer = sym (ap (λ (t : Bool). choose t (answerOf (verdict blockCode w)) (Refused Length)) right-length ∙ ap answerOf e);
     after =
         x
         ∙ sym (ap {B = List ℕ} (λ (t : Bool). choose t (digits 16 38 (scrubbed blockCode w)) ws) right-length
         ∙ ap (λ v. digits 16 38 (repaired blockCode w v)) e);
   }
 
-  pub is-clean : syndromeOf w ≡ noChecks → Scrubbed ws Clean ws
+  pub is-clean : syndromeOf w ≡ noChecks → Scrubbed ws (Done Clean) ws
   is-clean s =
       let hw : w < 2 ^ 608 = block-lt ws b in
       scrubs (clean (w % 2 ^ 512)) ws (near w w 0 hw s (dist-self w) (omega arith))
@@ -79,7 +81,7 @@ module _ (ws : List ℕ) (b : IsBlock ws) where
 
   -- what is left after flips f, as many as f has ones
   mends : (f n : ℕ) (exit : List ℕ) → f < 2 ^ 608 → syndromeOf f ≡ syndromeOf w → ones f ≡ suc n → suc n ≤ 2 → IsBlock exit
-      → joined 16 exit ≡ bitXor w f → Scrubbed ws (Mended (suc n)) exit
+      → joined 16 exit ≡ bitXor w f → Scrubbed ws (Done (Mended (suc n))) exit
   mends f n exit hf s o l x e =
       let hw : w < 2 ^ 608 = block-lt ws b in
       let v : ℕ = bitXor w f in
@@ -89,11 +91,11 @@ module _ (ws : List ℕ) (b : IsBlock ws) where
       (sym (back exit x) ∙ ap (digits 16 38) (e ∙ codeword-of v hv z))
 
   pub mends-one : (p : ℕ) (exit : List ℕ) → p < 608 → ofPlace p ≡ syndromeOf w → IsBlock exit → joined 16 exit ≡ bitXor w (2 ^ p)
-      → Scrubbed ws (Mended 1) exit
+      → Scrubbed ws (Done (Mended 1)) exit
   mends-one p exit h s x e = mends (2 ^ p) 0 exit (pow-lt h) s (ones-pow p) (lit< tt) x e
 
   pub mends-two : (p q : ℕ) (exit : List ℕ) → p < 608 → q < 608 → mixed (ofPlace p) (ofPlace q) ≡ syndromeOf w → syndromeOf w ≢ noChecks
-      → IsBlock exit → joined 16 exit ≡ bitXor (bitXor w (2 ^ p)) (2 ^ q) → Scrubbed ws (Mended 2) exit
+      → IsBlock exit → joined 16 exit ≡ bitXor (bitXor w (2 ^ p)) (2 ^ q) → Scrubbed ws (Done (Mended 2)) exit
   mends-two p q exit hp hq s some x e =
       mends (bitXor (2 ^ p) (2 ^ q)) 1 exit (xor-lt 608 (2 ^ p) (2 ^ q) (pow-lt hp) (pow-lt hq)) (syndrome-sum (2 ^ p) (2 ^ q) ∙ s)
       (ones-two p q (λ i. some (sym s ∙ ap (λ (r : ℕ). mixed (ofPlace p) (ofPlace r)) (sym i) ∙ mixed-self (ofPlace p)))) (lit< tt) x
@@ -116,7 +118,7 @@ module _ (ws : List ℕ) (b : IsBlock ws) where
           un .paired (t .first) (t .second) (t .below .0) (t .below .1) (t .apart)
           (sym (same ∙ ap syndromeOf (t .is) ∙ syndrome-sum (2 ^ t .first) (2 ^ t .second)))
 
-  pub is-lost : syndromeOf w ≢ noChecks → Unexplained (syndromeOf w) → Scrubbed ws Lost ws
+  pub is-lost : syndromeOf w ≢ noChecks → Unexplained (syndromeOf w) → Scrubbed ws (Refused LostBlock) ws
   is-lost some un = scrubs lost ws (none-near blockCode w (λ d l. far d l (decLt 2 (off blockCode w d)))) (sym (back ws b))
     where
       far : (d : ℕ) → d < 2 ^ 512 → Dec (2 < off blockCode w d) → 2 < off blockCode w d
@@ -140,15 +142,15 @@ not-allowed values before (inr ne) = ap (λ (t : Bool). eqb (length values) 32 &
 -- the answer and the words, by the test
 encodes : (values before exit : List ℕ) (t : Bool) → allowed values before ≡ t
     → exit ≡ choose t (digits 16 38 (codeword (joined 16 values))) before
-    → (choose t Done OtherLength ≡ Done → Codeword (joined 16 values) (joined 16 exit)) → Encoded values before (choose t Done OtherLength) exit
+    → (choose t Written (NotWritten Length) ≡ Written → Codeword (joined 16 values) (joined 16 exit)) → Encoded values before (choose t Written (NotWritten Length)) exit
 encodes values before exit t e x k = record {
-  answer = sym (ap (λ (t : Bool). choose t Done OtherLength) e);
+  answer = sym (ap (λ (t : Bool). choose t Written (NotWritten Length)) e);
   after = x ∙ sym (ap {B = List ℕ} (λ (t : Bool). choose t (digits 16 38 (codeword (joined 16 values))) before) e);
   meets = k;
 }
 
 pub encoded : (values before exit : List ℕ) → length values ≡ 32 → length before ≡ 38 → Below 16 values
-    → exit ≡ digits 16 38 (codeword (joined 16 values)) → Encoded values before Done exit
+    → exit ≡ digits 16 38 (codeword (joined 16 values)) → Encoded values before Written exit
 encoded values before exit n m h x =
     let d : ℕ = joined 16 values in
     let l : d < 2 ^ 512 = joined-lt 16 32 values n h in
@@ -157,12 +159,12 @@ encoded values before exit n m h x =
 
 -- ---- other lengths
 
-pub not-encoded : (values before : List ℕ) → (length values ≢ 32) ⊎ (length before ≢ 38) → Encoded values before OtherLength before
+pub not-encoded : (values before : List ℕ) → (length values ≢ 32) ⊎ (length before ≢ 38) → Encoded values before (NotWritten Length) before
 not-encoded values before other =
-    encodes values before before false (not-allowed values before other) refl (λ done. absurd (omega (arith, ap encodeNumberOf done)))
+    encodes values before before false (not-allowed values before other) refl (λ done. let z : _≡_ {A = ℕ} 0 1 = cc in absurd (omega arith))
 
-pub other-length : (ws : List ℕ) → length ws ≢ 38 → Scrubbed ws Length ws
+pub other-length : (ws : List ℕ) → length ws ≢ 38 → Scrubbed ws (Refused Length) ws
 other-length ws ne = record {
-  answer = sym (ap (λ (t : Bool). choose t (answerOf (verdict blockCode (joined 16 ws))) Length) (ne-eqb (length ws) 38 ne));
+  answer = sym (ap (λ (t : Bool). choose t (answerOf (verdict blockCode (joined 16 ws))) (Refused Length)) (ne-eqb (length ws) 38 ne));
   after = sym (ap {B = List ℕ} (λ (t : Bool). choose t (digits 16 38 (scrubbed blockCode (joined 16 ws))) ws) (ne-eqb (length ws) 38 ne));
 }

@@ -3,7 +3,7 @@ use mathlib.Core.Path.{_≡_, refl, sym, ap, _∙_, subst}
 use mathlib.Core.Logic.{_≢_, _⊎_, inl, inr}
 use mathlib.Core.Bool.{Bool, true, false}
 use mathlib.Core.List.{List}
-use Prim.Native.Nat.{ℕ, zero, suc, _^_, _≤_, _<_}
+use Prim.Native.Nat.{ℕ, _^_, _≤_, _<_}
 use native.Mathlib.Decide.{ℕ-discrete}
 use native.Mathlib.Omega.{arith}
 use lib.Bits.{bitXor, xor-lt}
@@ -13,24 +13,26 @@ use lib.ListN.{length, take}
 use borrow.Author.Tests.{eq-eqb, ne-eqb}
 use Rattle.words.specs.Word.{choose, dist}
 use Rattle.words.specs.Digits.{digits, joined, Below}
-use Rattle.words.proofs.Dist.{dist-self}
 use Rattle.words.proofs.Digits.{length-digits, take-digits, joined-digits, joined-lt, digits-joined}
-use Rattle.codes.specs.Verdict as codes
-use Rattle.codes.specs.Verdict.{clean, mended, lost, answered, refusal, flipsOf, verdict, repaired, scrubbed}
-use Rattle.codes.proofs.Promises.{found, none-near, answered-repaired}
-use Rattle.codes.proofs.Tally.{one-refusal, as-it-was, scrubbed-lt, tallies, again-number, again-no-flips, codeword-now}
+use Rattle.refusals.specs.declared.Refusal.the-variants.{LostBlock, Length}
+use Rattle.refusals.specs.Reply.{gives, refuses}
+use Rattle.refusals.proofs.Promises.{nothing-given}
+use Rattle.codes.specs.Verdict.{Verdict, clean, mended, lost, answered, replied, flipsOf, verdict, repaired, scrubbed}
+use Rattle.codes.specs.Tally.{tallyOfOne, Again}
+use Rattle.codes.proofs.Promises.{found, none-near, answered-given, answered-repaired}
+use Rattle.codes.proofs.Tally.{given-or-lost, given-is, as-it-was, scrubbed-lt, tallies, in-range, again-one, codeword-now}
 use Rattle.block_code.specs.Equations.{Codeword}
 use Rattle.block_code.specs.Code.{codeword, blockCode}
 use Rattle.block_code.proofs.Distance.{distance}
 use Rattle.block_code.proofs.Promises.{promised}
 use Rattle.block_code.proofs.Syndromes.{codeword-lt, data-words}
-use Rattle.block.specs.Answer.{answerOf, numberOf, flipsIn, encodeNumberOf}
+use Rattle.block.specs.Answer.{answerOf, dataIn, means, encodeMeans}
 use Rattle.block.specs.Calls.{allowed, Encoded, Scrubbed}
 use Rattle.block.specs.Promises.{EncodePromises, ScrubPromises, OneOutcome}
-use Rattle.block.specs.declared.Outcome.{Outcome}
-use Rattle.block.specs.declared.Outcome.the-variants.{Clean, Length}
-use Rattle.block.specs.declared.Written.{Written}
-use Rattle.block.specs.declared.Written.the-variants.{Done, Length as OtherLength}
+use Rattle.block.specs.declared.EncodeAnswer.{EncodeAnswer}
+use Rattle.block.specs.declared.EncodeAnswer.the-variants.{Done as Written, Refused as NotWritten}
+use Rattle.block.specs.declared.BlockAnswer.{BlockAnswer}
+use Rattle.block.specs.declared.BlockAnswer.the-variants.{Refused}
 use Rattle.block.proofs.Outcomes.{block-lt, back, is-allowed, not-allowed}
 
 -- ---- the encoder
@@ -43,209 +45,198 @@ front d h =
 whole : (d : ℕ) → d < 2 ^ 512 → joined 16 (digits 16 38 (codeword d)) ≡ codeword d
 whole d h = joined-digits 16 38 (codeword d) (codeword-lt d h)
 
-module _ (values before exit : List ℕ) (r : Written) (h : Encoded values before r exit) where
-  -- a block was written, or not
-  abbrev Written-or : Type 0
-  Written-or =
-      ((length values ≡ 32) × (r ≡ Done) × (exit ≡ digits 16 38 (codeword (joined 16 values)))) ⊎ ((r ≡ OtherLength) × (exit ≡ before))
+data-back : (d : ℕ) → d < 2 ^ 512 → dataIn (digits 16 38 (codeword d)) ≡ d
+data-back d h = ap (joined 16) (front d h) ∙ joined-digits 16 32 d h
 
+module _ (values before exit : List ℕ) (r : EncodeAnswer) (h : Encoded values before r exit) where
   by-test : (t : Bool) → allowed values before ≡ t
-      → (r ≡ choose t Done OtherLength) × (exit ≡ choose t (digits 16 38 (codeword (joined 16 values))) before)
+      → (r ≡ choose t Written (NotWritten Length)) × (exit ≡ choose t (digits 16 38 (codeword (joined 16 values))) before)
   by-test t e = (
-    h .answer ∙ ap (λ (t : Bool). choose t Done OtherLength) e,
+    h .answer ∙ ap (λ (t : Bool). choose t Written (NotWritten Length)) e,
     h .after ∙ ap {B = List ℕ} (λ (t : Bool). choose t (digits 16 38 (codeword (joined 16 values))) before) e,
   )
 
-  not-written : (length values ≢ 32) ⊎ (length before ≢ 38) → (r ≡ OtherLength) × (exit ≡ before)
-  not-written other = by-test false (not-allowed values before other)
+  accepted : length values ≡ 32 → length before ≡ 38 → (r ≡ Written) × (exit ≡ digits 16 38 (codeword (joined 16 values)))
+  accepted n m = by-test true (is-allowed values before n m)
 
-  written-or : Written-or
-  written-or = go (ℕ-discrete (length values) 32) (ℕ-discrete (length before) 38)
-    where
-      go : Dec (length values ≡ 32) → Dec (length before ≡ 38) → Written-or
-      go (yes n) (yes m) = let (a, x) = by-test true (is-allowed values before n m) in inl (n, a, x)
-      go (yes n) (no m) = inr (not-written (inr m))
-      go (no n) m = inr (not-written (inl n))
+  not-written : (length values ≢ 32) ⊎ (length before ≢ 38) → (encodeMeans r exit ≡ refuses 3) × (exit ≡ before)
+  not-written other = let (a, x) = by-test false (not-allowed values before other) in (ap (λ a. encodeMeans a exit) a, x)
 
-  done : encodeNumberOf r ≡ 0 → (length values ≡ 32) × (r ≡ Done) × (exit ≡ digits 16 38 (codeword (joined 16 values)))
-  done z = go written-or
+  -- what is given is the block of the data
+  abbrev Done : List ℕ → Type 0
+  Done ws = (length values ≡ 32) × (r ≡ Written) × (ws ≡ exit) × (exit ≡ digits 16 38 (codeword (joined 16 values)))
+
+  done : (ws : List ℕ) → encodeMeans r exit ≡ gives ws → Done ws
+  done ws e = go (ℕ-discrete (length values) 32) (ℕ-discrete (length before) 38)
     where
-      go : Written-or → (length values ≡ 32) × (r ≡ Done) × (exit ≡ digits 16 38 (codeword (joined 16 values)))
-      go (inl x) = x
-      go (inr (e, x)) = absurd (omega (arith, z, ap encodeNumberOf e))
+      none : (length values ≢ 32) ⊎ (length before ≢ 38) → Done ws
+      none other = nothing-given Length (sym (not-written other .0) ∙ e)
+
+      go : Dec (length values ≡ 32) → Dec (length before ≡ 38) → Done ws
+      go (yes n) (yes m) = let (a, x) = accepted n m in let same = sym e ∙ ap (λ a. encodeMeans a exit) a in (n, a, cc, x)
+      go (yes n) (no m) = none (inr m)
+      go (no n) m = none (inl n)
 
 pub encode-promised : EncodePromises
 encode-promised = record {
-  accepted = λ values before exit r n m h. ap encodeNumberOf (by-test values before exit r h true (is-allowed values before n m) .0);
-  refused = λ values before exit r other h. let (e, x) = not-written values before exit r h other in (ap encodeNumberOf e, x);
-  meets = λ values before exit r h z. let (n, e, x) = done values before exit r h z in h .meets e;
-  data-kept = λ values before exit r small h z.
-      let (n, e, x) = done values before exit r h z in
-      ap (take 32) x ∙ front (joined 16 values) (joined-lt 16 32 values n small)
-      ∙ digits-joined 16 32 values n small;
+  accepted = λ values before exit r n m h.
+      let (a, x) = accepted values before exit r h n m in ap (λ a. encodeMeans a exit) a ∙ ap gives x;
+  refused = λ values before exit r other h. not-written values before exit r h other;
+  meets = λ values before exit ws r h e.
+      let (n, a, same, x) = done values before exit r h ws e in
+      subst (λ ws. Codeword (joined 16 values) (joined 16 ws)) (sym same) (h .meets a);
+  data-kept = λ values before exit ws r small h e.
+      let (n, a, same, x) = done values before exit r h ws e in
+      ap (take 32) (same ∙ x) ∙ front (joined 16 values) (joined-lt 16 32 values n small) ∙ digits-joined 16 32 values n small;
 }
 
 -- ---- the scrub
 
--- the numbers and the flips of an answer are those of its verdict
-number-of : (v : codes.Verdict) → numberOf (answerOf v) ≡ refusal 2 v
-number-of (clean d) = refl
-number-of (mended d n) = refl
-number-of lost = refl
+-- the answer for a verdict, with the words put right, means that verdict
+means-verdict : (w : ℕ) (v : Verdict) → verdict blockCode w ≡ v → means (answerOf v) (digits 16 38 (repaired blockCode w v)) ≡ replied LostBlock v
+means-verdict w (clean d) e =
+    ap (λ (x : ℕ). gives (clean x)) (data-back d (in-range blockCode (promised .verdicts) w (clean d) e d 0 (refl, refl) .0))
+means-verdict w (mended d n) e =
+    ap (λ (x : ℕ). gives (mended x n)) (data-back d (in-range blockCode (promised .verdicts) w (mended d n) e d n (refl, refl) .0))
+means-verdict w lost e = refl
 
-flips-in : (v : codes.Verdict) → flipsIn (answerOf v) ≡ flipsOf v
-flips-in (clean d) = refl
-flips-in (mended d n) = refl
-flips-in lost = refl
+module _ (ws exit : List ℕ) (r : BlockAnswer) (h : Scrubbed ws r exit) where
+  abbrev word : ℕ
+  word = joined 16 ws
 
--- a block was judged, or its length is another
-abbrev Judged : List ℕ → List ℕ → Outcome → Type 0
-Judged ws exit r =
-    ((length ws ≡ 38) × (r ≡ answerOf (verdict blockCode (joined 16 ws))) × (exit ≡ digits 16 38 (scrubbed blockCode (joined 16 ws))))
-    ⊎ ((length ws ≢ 38) × (r ≡ Length) × (exit ≡ ws))
+  by : (t : Bool) → eqb (length ws) 38 ≡ t
+      → (r ≡ choose t (answerOf (verdict blockCode word)) (Refused Length)) × (exit ≡ choose t (digits 16 38 (scrubbed blockCode word)) ws)
+  by t e = (
+    h .answer ∙ ap (λ (t : Bool). choose t (answerOf (verdict blockCode word)) (Refused Length)) e,
+    h .after ∙ ap {B = List ℕ} (λ (t : Bool). choose t (digits 16 38 (scrubbed blockCode word)) ws) e,
+  )
 
-judged : (ws exit : List ℕ) (r : Outcome) → Scrubbed ws r exit → Judged ws exit r
-judged ws exit r h = go (ℕ-discrete (length ws) 38)
-  where
-    by : (t : Bool) → eqb (length ws) 38 ≡ t
-        → (r ≡ choose t (answerOf (verdict blockCode (joined 16 ws))) Length) × (exit ≡ choose t (digits 16 38 (scrubbed blockCode (joined 16 ws))) ws)
-    by t e = (
-      h .answer ∙ ap (λ (t : Bool). choose t (answerOf (verdict blockCode (joined 16 ws))) Length) e,
-      h .after ∙ ap {B = List ℕ} (λ (t : Bool). choose t (digits 16 38 (scrubbed blockCode (joined 16 ws))) ws) e,
-    )
+  other-length : length ws ≢ 38 → (means r exit ≡ refuses 3) × (exit ≡ ws)
+  other-length ne = let (a, x) = by false (ne-eqb (length ws) 38 ne) in (ap (λ a. means a exit) a, x)
 
-    go : Dec (length ws ≡ 38) → Judged ws exit r
-    go (yes n) = let (a, x) = by true (eq-eqb (length ws) 38 n) in inl (n, a, x)
-    go (no n) = let (a, x) = by false (ne-eqb (length ws) 38 n) in inr (n, a, x)
+  -- a block that is known with its verdict
+  of-word : length ws ≡ 38 → (w : ℕ) (v : Verdict) → word ≡ w → verdict blockCode w ≡ v
+      → (means r exit ≡ replied LostBlock v) × (exit ≡ digits 16 38 (repaired blockCode w v))
+  of-word n w v e p =
+      let (a, x) = by true (eq-eqb (length ws) 38 n) in
+      let q : verdict blockCode word ≡ v = ap (verdict blockCode) e ∙ p in
+      let y : exit ≡ digits 16 38 (repaired blockCode w v) =
+      x ∙ ap (λ (w : ℕ). digits 16 38 (scrubbed blockCode w)) e ∙ ap (λ v. digits 16 38 (repaired blockCode w v)) p in
+      (ap (λ a. means a exit) (a ∙ ap answerOf q) ∙ ap (means (answerOf v)) y ∙ means-verdict w v p, y)
 
--- .. on a word that is known with its verdict
-of-word : (ws exit : List ℕ) (r : Outcome) (w : ℕ) (v : codes.Verdict) → length ws ≡ 38 → joined 16 ws ≡ w → verdict blockCode w ≡ v
-    → Judged ws exit r → (r ≡ answerOf v) × (exit ≡ digits 16 38 (repaired blockCode w v))
-of-word ws exit r w v n e p (inl (m, a, x)) = (
-  a ∙ ap answerOf (ap (verdict blockCode) e ∙ p),
-  x ∙ ap (λ (w : ℕ). digits 16 38 (scrubbed blockCode w)) e ∙ ap (λ v. digits 16 38 (repaired blockCode w v)) p,
-)
-of-word ws exit r w v n e p (inr (m, a, x)) = absurd (m n)
+  its-verdict : length ws ≡ 38 → (means r exit ≡ replied LostBlock (verdict blockCode word)) × (exit ≡ digits 16 38 (scrubbed blockCode word))
+  its-verdict n = of-word n word (verdict blockCode word) refl refl
 
--- the words that were scrubbed, as a number
-scrubbed-number : (ws exit : List ℕ) → length ws ≡ 38 → Below 16 ws → exit ≡ digits 16 38 (scrubbed blockCode (joined 16 ws))
-    → joined 16 exit ≡ scrubbed blockCode (joined 16 ws)
-scrubbed-number ws exit n small x =
-    ap (joined 16) x
-    ∙ joined-digits 16 38 (scrubbed blockCode (joined 16 ws))
-    (scrubbed-lt blockCode (promised .verdicts) (2 ^ 608) codeword-lt (joined 16 ws) (block-lt ws (n, small)))
+  -- where a verdict is given, the length is right
+  long-enough : (v : Verdict) → means r exit ≡ gives v → length ws ≡ 38
+  long-enough v e = go (ℕ-discrete (length ws) 38)
+    where
+      go : Dec (length ws ≡ 38) → length ws ≡ 38
+      go (yes n) = n
+      go (no n) = nothing-given Length (sym (other-length n .0) ∙ e)
 
-numbers : (ws exit : List ℕ) (r : Outcome) → length ws ≡ 38 → Judged ws exit r → (numberOf r ≡ 0) ⊎ (numberOf r ≡ 2)
-numbers ws exit r m (inl (n, a, x)) = go (one-refusal 2 v)
-  where
-    v : codes.Verdict
-    v = verdict blockCode (joined 16 ws)
+  numbers : length ws ≡ 38 → ((v : Verdict) × (means r exit ≡ gives v)) ⊎ (means r exit ≡ refuses 2)
+  numbers n = go (given-or-lost LostBlock (verdict blockCode word))
+    where
+      go : (replied LostBlock (verdict blockCode word) ≡ gives (verdict blockCode word)) ⊎ (verdict blockCode word ≡ lost)
+          → ((v : Verdict) × (means r exit ≡ gives v)) ⊎ (means r exit ≡ refuses 2)
+      go (inl e) = inl (verdict blockCode word, its-verdict n .0 ∙ e)
+      go (inr e) = inr (its-verdict n .0 ∙ ap (replied LostBlock) e)
 
-    go : (refusal 2 v ≡ 0) ⊎ (refusal 2 v ≡ 2) → (numberOf r ≡ 0) ⊎ (numberOf r ≡ 2)
-    go (inl z) = inl (ap numberOf a ∙ number-of v ∙ z)
-    go (inr z) = inr (ap numberOf a ∙ number-of v ∙ z)
-numbers ws exit r m (inr (n, a, x)) = absurd (n m)
+  some-codeword : (v : Verdict) → means r exit ≡ gives v → (d : ℕ) × (d < 2 ^ 512) × (exit ≡ digits 16 38 (codeword d))
+  some-codeword v e =
+      let (a, x) = its-verdict (long-enough v e) in
+      let (d, l, c) = codeword-now blockCode (promised .verdicts) LostBlock word v (sym a ∙ e) in
+      (d, l, x ∙ ap (digits 16 38) c)
 
--- where nothing is refused
-some-codeword : (ws exit : List ℕ) (r : Outcome) → Judged ws exit r → numberOf r ≡ 0 → (d : ℕ) × (d < 2 ^ 512) × (exit ≡ digits 16 38 (codeword d))
-some-codeword ws exit r (inl (n, a, x)) z =
-    let v : codes.Verdict = verdict blockCode (joined 16 ws) in
-    let (d, l, e) = codeword-now blockCode (promised .verdicts) 1 (joined 16 ws) (sym (number-of v) ∙ ap numberOf (sym a) ∙ z) in
-    (d, l, x ∙ ap (digits 16 38) e)
-some-codeword ws exit r (inr (n, a, x)) z = absurd (omega (arith, z, ap numberOf a))
+  is-codeword : (v : Verdict) → means r exit ≡ gives v → Codeword (dataIn exit) (joined 16 exit)
+  is-codeword v e =
+      let (d, l, x) = some-codeword v e in
+      subst (λ (y : ℕ). Codeword y (joined 16 exit)) (sym (ap dataIn x ∙ data-back d l))
+      (subst (Codeword d) (sym (ap (joined 16) x ∙ whole d l)) (promised .meets d l))
 
-is-codeword : (d : ℕ) (exit : List ℕ) → d < 2 ^ 512 → exit ≡ digits 16 38 (codeword d) → Codeword (joined 16 (take 32 exit)) (joined 16 exit)
-is-codeword d exit l x =
-    subst (λ (e : ℕ). Codeword e (joined 16 exit)) (sym (ap (λ ws. joined 16 (take 32 ws)) x ∙ ap (joined 16) (front d l) ∙ joined-digits 16 32 d l))
-    (subst (Codeword d) (sym (ap (joined 16) x ∙ whole d l)) (promised .meets d l))
+  as-read : Below 16 ws → ((v : Verdict) → means r exit ≢ gives v) → exit ≡ ws
+  as-read small ne = go (ℕ-discrete (length ws) 38)
+    where
+      go : Dec (length ws ≡ 38) → exit ≡ ws
+      go (yes n) =
+          let (a, x) = its-verdict n in
+          x ∙ ap (digits 16 38) (as-it-was blockCode LostBlock word (verdict blockCode word) (λ v z. ne v (a ∙ z))) ∙ back ws (n, small)
+      go (no n) = other-length n .1
 
-as-read : (ws exit : List ℕ) (r : Outcome) → Below 16 ws → Judged ws exit r → numberOf r ≢ 0 → exit ≡ ws
-as-read ws exit r small (inl (n, a, x)) ne =
-    let v : codes.Verdict = verdict blockCode (joined 16 ws) in
-    x ∙ ap (digits 16 38) (as-it-was blockCode 2 (joined 16 ws) v (λ z. ne (ap numberOf a ∙ number-of v ∙ z))) ∙ back ws (n, small)
-as-read ws exit r small (inr (n, a, x)) ne = x
+  -- the words that were scrubbed, as a number
+  scrubbed-number : length ws ≡ 38 → Below 16 ws → joined 16 exit ≡ scrubbed blockCode word
+  scrubbed-number n small =
+      ap (joined 16) (its-verdict n .1)
+      ∙ joined-digits 16 38 (scrubbed blockCode word)
+      (scrubbed-lt blockCode (promised .verdicts) (2 ^ 608) codeword-lt word (block-lt ws (n, small)))
 
-changed : (ws exit : List ℕ) (r : Outcome) → Below 16 ws → Judged ws exit r → flipsIn r ≡ dist (joined 16 ws) (joined 16 exit)
-changed ws exit r small (inl (n, a, x)) =
-    ap flipsIn a ∙ flips-in (verdict blockCode (joined 16 ws)) ∙ promised .verdicts .changed (joined 16 ws)
-    ∙ ap (dist (joined 16 ws)) (sym (scrubbed-number ws exit n small x))
-changed ws exit r small (inr (n, a, x)) = ap flipsIn a ∙ sym (ap (λ e. dist (joined 16 ws) (joined 16 e)) x ∙ dist-self (joined 16 ws))
+  changed : (v : Verdict) → Below 16 ws → means r exit ≡ gives v → flipsOf v ≡ dist word (joined 16 exit)
+  changed v small e =
+      let n = long-enough v e in
+      let same : v ≡ verdict blockCode word = given-is LostBlock (verdict blockCode word) (sym (its-verdict n .0) ∙ e) in
+      ap flipsOf same ∙ promised .verdicts .changed word ∙ ap (dist word) (sym (scrubbed-number n small))
+
+  -- a verdict that hands data out
+  answers : length ws ≡ 38 → (w d n : ℕ) → word ≡ w → verdict blockCode w ≡ answered d n
+      → (means r exit ≡ gives (answered d n)) × (exit ≡ digits 16 38 (codeword d))
+  answers m w d n e p =
+      let (a, x) = of-word m w (answered d n) e p in
+      (a ∙ answered-given LostBlock d n, x ∙ ap (digits 16 38) (answered-repaired blockCode w d n))
 
 -- a codeword is clean
-clean-codeword : (d : ℕ) (ws exit : List ℕ) (r : Outcome) → d < 2 ^ 512 → ws ≡ digits 16 38 (codeword d) → Judged ws exit r → (r ≡ Clean) × (exit ≡ ws)
-clean-codeword d ws exit r l e j =
+clean-codeword : (d : ℕ) (ws exit : List ℕ) (r : BlockAnswer) → d < 2 ^ 512 → ws ≡ digits 16 38 (codeword d) → Scrubbed ws r exit
+    → (means r exit ≡ gives (clean d)) × (exit ≡ ws)
+clean-codeword d ws exit r l e h =
     let (a, x) =
-    of-word ws exit r (codeword d) (clean d) (ap length e ∙ length-digits 16 38 (codeword d)) (ap (joined 16) e ∙ whole d l) (promised .verdicts .unharmed d l) j in
+    of-word ws exit r h (ap length e ∙ length-digits 16 38 (codeword d)) (codeword d) (clean d) (ap (joined 16) e ∙ whole d l) (promised .verdicts .unharmed d l) in
     (a, x ∙ sym e)
 
--- a verdict that hands data out
-answers : (ws exit : List ℕ) (r : Outcome) (w d n : ℕ) → length ws ≡ 38 → joined 16 ws ≡ w → verdict blockCode w ≡ answered d n
-    → Judged ws exit r → (numberOf r ≡ 0) × (flipsIn r ≡ n) × (exit ≡ digits 16 38 (codeword d))
-answers ws exit r w d n m e p j =
-    let (a, x) = of-word ws exit r w (answered d n) m e p j in (
-      ap numberOf a ∙ number d n,
-      ap flipsIn a ∙ flips d n,
-      x ∙ ap (digits 16 38) (answered-repaired blockCode w d n),
-    )
-  where
-    number : (d n : ℕ) → numberOf (answerOf (answered d n)) ≡ 0
-    number d zero = refl
-    number d (suc n) = refl
-
-    flips : (d n : ℕ) → flipsIn (answerOf (answered d n)) ≡ n
-    flips d zero = refl
-    flips d (suc n) = refl
-
-undone : (d p : ℕ) (exit : List ℕ) (r : Outcome) → d < 2 ^ 512 → p < 2 ^ 608 → ones p ≤ 2
-    → Judged (digits 16 38 (bitXor (codeword d) p)) exit r → (numberOf r ≡ 0) × (flipsIn r ≡ ones p) × (exit ≡ digits 16 38 (codeword d))
-undone d p exit r l h few j =
+undone : (d p : ℕ) (exit : List ℕ) (r : BlockAnswer) → d < 2 ^ 512 → p < 2 ^ 608 → ones p ≤ 2
+    → Scrubbed (digits 16 38 (bitXor (codeword d) p)) r exit → (means r exit ≡ gives (answered d (ones p))) × (exit ≡ digits 16 38 (codeword d))
+undone d p exit r l h few s =
     let w : ℕ = bitXor (codeword d) p in
-    answers (digits 16 38 w) exit r w d (ones p) (length-digits 16 38 w)
-    (joined-digits 16 38 w (xor-lt 608 (codeword d) p (codeword-lt d l) h)) (promised .verdicts .undone d p l few) j
+    answers (digits 16 38 w) exit r s (length-digits 16 38 w) w d (ones p)
+    (joined-digits 16 38 w (xor-lt 608 (codeword d) p (codeword-lt d l) h)) (promised .verdicts .undone d p l few)
 
-again : (ws once twice : List ℕ) (r s : Outcome) → Below 16 ws → Judged ws once r → Judged once twice s
-    → (twice ≡ once) × (flipsIn s ≡ 0) × (numberOf s ≡ numberOf r)
-again ws once twice r s small (inl (n, a, x)) j =
+again : (ws once twice : List ℕ) (r s : BlockAnswer) → length ws ≡ 38 → Below 16 ws → Scrubbed ws r once → Scrubbed once s twice
+    → (v : Verdict) × (u : Verdict) × (means r once ≡ replied LostBlock v) × (means s twice ≡ replied LostBlock u)
+    × Again (tallyOfOne v) (tallyOfOne u) × (twice ≡ once)
+again ws once twice r s n small h k =
     let w : ℕ = joined 16 ws in
-    let v : codes.Verdict = verdict blockCode (scrubbed blockCode w) in
+    let (a, x) = its-verdict ws once r h n in
     let (b, y) =
-    of-word once twice s (scrubbed blockCode w) v (ap length x ∙ length-digits 16 38 (scrubbed blockCode w)) (scrubbed-number ws once n small x) refl j in (
-      y ∙ ap (digits 16 38) (tallies blockCode (promised .verdicts) .again w) ∙ sym x,
-      ap flipsIn b ∙ flips-in v ∙ again-no-flips blockCode (promised .verdicts) w,
-      ap numberOf b ∙ number-of v ∙ again-number blockCode (promised .verdicts) 2 w ∙ sym (ap numberOf a ∙ number-of (verdict blockCode w)),
+    of-word once twice s k (ap length x ∙ length-digits 16 38 (scrubbed blockCode w)) (scrubbed blockCode w) (verdict blockCode (scrubbed blockCode w))
+    (scrubbed-number ws once r h n small) refl in (
+      verdict blockCode w,
+      verdict blockCode (scrubbed blockCode w),
+      a,
+      b,
+      again-one blockCode (promised .verdicts) w,
+      y ∙ ap (digits 16 38) (tallies blockCode (promised .verdicts) .unchanged w) ∙ sym x,
     )
-again ws once twice r s small (inr (n, a, x)) (inl (m, b, y)) = absurd (n (ap length (sym x) ∙ m))
-again ws once twice r s small (inr (n, a, x)) (inr (m, b, y)) = (y, ap flipsIn b, ap numberOf b ∙ sym (ap numberOf a))
 
 pub scrub-promised : ScrubPromises
 scrub-promised = record {
-  refused = λ ws exit r ne h. refused ws exit r ne (judged ws exit r h);
+  refused = λ ws exit r ne h. other-length ws exit r h ne;
   no-tie = λ ws. promised .verdicts .no-tie (joined 16 ws);
-  numbers = λ ws exit r n h. numbers ws exit r n (judged ws exit r h);
-  is-verdict = λ ws exit r v n h p.
-      of-word ws exit r (joined 16 ws) v n refl (sym (promised .verdicts .settled (joined 16 ws) .one v p)) (judged ws exit r h);
+  numbers = λ ws exit r n h. numbers ws exit r h n;
+  is-verdict = λ ws exit r v n h p. of-word ws exit r h n (joined 16 ws) v refl (sym (promised .verdicts .settled (joined 16 ws) .one v p));
   has-verdict = λ ws. (verdict blockCode (joined 16 ws), promised .verdicts .settled (joined 16 ws) .has);
-  numbers-of = λ v. (number-of v, flips-in v);
+  demand3 = λ ws exit r n h.
+      (verdict blockCode (joined 16 ws), its-verdict ws exit r h n .0, promised .verdicts .demand3 (joined 16 ws));
   within = λ ws exit r d n h l few.
-      answers ws exit r (joined 16 ws) d (dist (joined 16 ws) (codeword d)) n refl (found blockCode 5 distance (lit< tt) (joined 16 ws) d l few)
-      (judged ws exit r h);
-  beyond = λ ws exit r n h far.
-      of-word ws exit r (joined 16 ws) lost n refl (none-near blockCode (joined 16 ws) far) (judged ws exit r h) .0;
-  codeword-now = λ ws exit r h z. let (d, l, x) = some-codeword ws exit r (judged ws exit r h) z in is-codeword d exit l x;
-  as-read = λ ws exit r small h. as-read ws exit r small (judged ws exit r h);
-  changed = λ ws exit r small h. changed ws exit r small (judged ws exit r h);
-  encoded = λ values before ws exit a r small e z h.
-      let (n, d, x) = done values before ws a e z in
-      clean-codeword (joined 16 values) ws exit r (joined-lt 16 32 values n small) x (judged ws exit r h);
-  undone = λ d p exit r l h few s. undone d p exit r l h few (judged (digits 16 38 (bitXor (codeword d) p)) exit r s);
-  again = λ ws once twice r s small h k. again ws once twice r s small (judged ws once r h) (judged once twice s k);
-  again-clean = λ ws once twice r s h z k.
-      let (d, l, x) = some-codeword ws once r (judged ws once r h) z in clean-codeword d once twice s l x (judged once twice s k) .0;
+      answers ws exit r h n (joined 16 ws) d (dist (joined 16 ws) (codeword d)) refl (found blockCode 5 distance (lit< tt) (joined 16 ws) d l few);
+  beyond = λ ws exit r n h far. of-word ws exit r h n (joined 16 ws) lost refl (none-near blockCode (joined 16 ws) far) .0;
+  codeword-now = λ ws exit r v h. is-codeword ws exit r h v;
+  as-read = λ ws exit r small h. as-read ws exit r h small;
+  changed = λ ws exit r v small h. changed ws exit r h v small;
+  encoded = λ values before ws exit given a r small e g h.
+      let (n, w, same, x) = done values before ws a e given g in
+      clean-codeword (joined 16 values) ws exit r (joined-lt 16 32 values n small) x h;
+  undone = undone;
+  again = again;
 }
-  where
-    refused : (ws exit : List ℕ) (r : Outcome) → length ws ≢ 38 → Judged ws exit r → (numberOf r ≡ 3) × (exit ≡ ws)
-    refused ws exit r ne (inl (n, a, x)) = absurd (ne n)
-    refused ws exit r ne (inr (n, a, x)) = (ap numberOf a, x)
 
 pub one-outcome : OneOutcome
 one-outcome = record {

@@ -1,33 +1,34 @@
 -- What the answers of the block's calls say, in document 01's terms. Assumes nothing.
+use mathlib.Core.List.{List}
 use Prim.Native.Nat.{ℕ}
-use Rattle.codes.specs.Verdict as codes
-use Rattle.codes.specs.Verdict.{clean, mended, lost}
-use Rattle.block.specs.declared.Outcome.{Outcome}
-use Rattle.block.specs.declared.Outcome.the-variants.{Clean, Mended, Lost, Length}
-use Rattle.block.specs.declared.Written.{Written}
-use Rattle.block.specs.declared.Written.the-variants.{Done, Length as OtherLength}
+use lib.ListN.{take}
+use Rattle.words.specs.Digits.{joined}
+use Rattle.refusals.specs.declared.Refusal.the-variants.{LostBlock}
+use Rattle.refusals.specs.Reply.{Reply, gives, refusal}
+use Rattle.codes.specs.Verdict.{Verdict, clean, mended, lost}
+use Rattle.block.specs.declared.EncodeAnswer.{EncodeAnswer}
+use Rattle.block.specs.declared.EncodeAnswer.the-variants.{Done as Written, Refused as NotWritten}
+use Rattle.block.specs.declared.BlockVerdict.the-variants.{Clean, Mended}
+use Rattle.block.specs.declared.BlockAnswer.{BlockAnswer}
+use Rattle.block.specs.declared.BlockAnswer.the-variants.{Done, Refused}
 
 -- the answer for document 01's verdict: the data is in the words
-abbrev pub answerOf : codes.Verdict → Outcome
-answerOf (clean d) = Clean
-answerOf (mended d n) = Mended n
-answerOf lost = Lost
+abbrev pub answerOf : Verdict → BlockAnswer
+answerOf (clean d) = Done Clean
+answerOf (mended d n) = Done (Mended n)
+answerOf lost = Refused LostBlock
 
--- Document 01's number for each answer of a scrub: 2 for lost, 3 for a length that is not allowed, and 0 where nothing is refused; ..
-abbrev pub numberOf : Outcome → ℕ
-numberOf Clean = 0
-numberOf (Mended n) = 0
-numberOf Lost = 2
-numberOf Length = 3
+-- words 0 to 31 are the data
+abbrev pub dataIn : List ℕ → ℕ
+dataIn words = joined 16 (take 32 words)
 
--- .. its flips; ..
-abbrev pub flipsIn : Outcome → ℕ
-flipsIn Clean = 0
-flipsIn (Mended n) = n
-flipsIn Lost = 0
-flipsIn Length = 0
+-- What a scrub says, by its answer and the words that it leaves: the verdict, with the data that stands there.
+abbrev pub means : BlockAnswer → List ℕ → Reply Verdict
+means (Done Clean) exit = gives (clean (dataIn exit))
+means (Done (Mended n)) exit = gives (mended (dataIn exit) n)
+means (Refused why) exit = refusal why
 
--- .. and the number for each answer of the encoder.
-abbrev pub encodeNumberOf : Written → ℕ
-encodeNumberOf Done = 0
-encodeNumberOf OtherLength = 3
+-- What the encoder says, by its answer and the words that it leaves: these are what it gives.
+abbrev pub encodeMeans : EncodeAnswer → List ℕ → Reply (List ℕ)
+encodeMeans Written exit = gives exit
+encodeMeans (NotWritten why) exit = refusal why

@@ -7,14 +7,15 @@ use lib.Dec.{eqb}
 use lib.ListN.{length}
 use Rattle.words.specs.Word.{choose}
 use Rattle.words.specs.Digits.{digits, joined}
+use Rattle.refusals.specs.declared.Refusal.the-variants.{Length}
 use Rattle.codes.specs.Verdict.{verdict, scrubbed}
 use Rattle.block_code.specs.Equations.{Codeword}
 use Rattle.block_code.specs.Code.{codeword, blockCode}
 use Rattle.block.specs.Answer.{answerOf}
-use Rattle.block.specs.declared.Outcome.{Outcome}
-use Rattle.block.specs.declared.Outcome.the-variants.{Length}
-use Rattle.block.specs.declared.Written.{Written}
-use Rattle.block.specs.declared.Written.the-variants.{Done, Length as OtherLength}
+use Rattle.block.specs.declared.EncodeAnswer.{EncodeAnswer}
+use Rattle.block.specs.declared.EncodeAnswer.the-variants.{Done as Written, Refused as NotWritten}
+use Rattle.block.specs.declared.BlockAnswer.{BlockAnswer}
+use Rattle.block.specs.declared.BlockAnswer.the-variants.{Refused}
 
 -- exactly 32 words of data, and exactly 38 to write to
 abbrev pub allowed : List ℕ → List ℕ → Bool
@@ -22,13 +23,13 @@ allowed values before = eqb (length values) 32 && eqb (length before) 38
 
 -- `Block::encode`: exactly 32 words in and exactly 38 out: the words of the block of the data, which meets the equations. Any other length is
 -- refused, and nothing is written.
-pub record Encoded (values before : List ℕ) (r : Written) (exit : List ℕ) : Type 0 where
-  pub answer : r ≡ choose (allowed values before) Done OtherLength
+pub record Encoded (values before : List ℕ) (r : EncodeAnswer) (exit : List ℕ) : Type 0 where
+  pub answer : r ≡ choose (allowed values before) Written (NotWritten Length)
   pub after : exit ≡ choose (allowed values before) (digits 16 38 (codeword (joined 16 values))) before
-  pub meets : r ≡ Done → Codeword (joined 16 values) (joined 16 exit)
+  pub meets : r ≡ Written → Codeword (joined 16 values) (joined 16 exit)
 
 -- `Block::scrub`: document 01's verdict on exactly 38 words, which afterwards are the codeword, or as they were where there is none. Any
 -- other length is refused, and nothing is written.
-pub record Scrubbed (before : List ℕ) (r : Outcome) (exit : List ℕ) : Type 0 where
-  pub answer : r ≡ choose (eqb (length before) 38) (answerOf (verdict blockCode (joined 16 before))) Length
+pub record Scrubbed (before : List ℕ) (r : BlockAnswer) (exit : List ℕ) : Type 0 where
+  pub answer : r ≡ choose (eqb (length before) 38) (answerOf (verdict blockCode (joined 16 before))) (Refused Length)
   pub after : exit ≡ choose (eqb (length before) 38) (digits 16 38 (scrubbed blockCode (joined 16 before))) before

@@ -25,19 +25,24 @@ ghost use Rattle.block_code.specs.Checks.{noChecks, syndromeOf};
 ghost use Rattle.block.specs.Calls.{Encoded, Scrubbed};
 use block_code::Checks;
 use block_flips::Flips;
+use refusals::Refusal;
 
-// The answer of the encoder: a block was written, or a slice has a length that is not allowed.
-pub enum Written {
+// The answer of the encoder. It refuses a slice whose length is not allowed.
+pub enum EncodeAnswer {
     Done,
-    Length,
+    Refused(Refusal),
 }
 
-// The answer of a scrub. The data is in the words. Length: there are not 38 of them.
-pub enum Outcome {
+// The verdict on a block that is not lost. The data is in the words.
+pub enum BlockVerdict {
     Clean,
     Mended { flips: u32 },
-    Lost,
-    Length,
+}
+
+// The answer of a scrub. It refuses a block that is lost, and any number of words but 38.
+pub enum BlockAnswer {
+    Done(BlockVerdict),
+    Refused(Refusal),
 }
 
 // A block is lent, as 38 words: the type has the constants and the calls.
@@ -49,21 +54,21 @@ const VALUES: usize = 32;
 const WORDS: usize = 38;
 
 // The flips that explain the syndrome s undone, where there are not more than two.
-fn mend(words: &mut [u16], s: Checks) -> Outcome
+fn mend(words: &mut [u16], s: Checks) -> BlockAnswer
     requires { ⌜ (length (now words) ≡ 38) × (s ≡ syndromeOf (joined 16 (now words))) × (s ≢ noChecks) ⌝ }
     ensures { λ r. ⌜ Scrubbed (now (words .entry)) r (now (words .exit)) ⌝ }
 {
     match block_flips::nearest(s) {
         Flips::One(p) => {
             block_words::flip(words, p);
-            Outcome::Mended { flips: 1 }
+            BlockAnswer::Done(BlockVerdict::Mended { flips: 1 })
         }
         Flips::Two(p, q) => {
             block_words::flip(words, p);
             block_words::flip(words, q);
-            Outcome::Mended { flips: 2 }
+            BlockAnswer::Done(BlockVerdict::Mended { flips: 2 })
         }
-        Flips::More => Outcome::Lost,
+        Flips::More => BlockAnswer::Refused(Refusal::LostBlock),
     }
 }
 
@@ -76,31 +81,31 @@ impl Block {
 
     // The block of 32 data words, into 38 words. Any other length is refused, and nothing is written. RADIUS, LENGTH and DISTANCE are the
     // code's own.
-    pub fn encode(values: &[u16], words: &mut [u16]) -> Written
+    pub fn encode(values: &[u16], words: &mut [u16]) -> EncodeAnswer
         ensures { λ r. ⌜ Encoded (now (values .entry)) (now (words .entry)) r (now (words .exit)) ⌝ }
         ensures constants { λ r. do ⌜ States blockCode (← ⟦Block::RADIUS⟧ .entry) (← ⟦Block::LENGTH⟧ .entry) (← ⟦Block::DISTANCE⟧ .entry) ⌝ }
     {
         if values.len() != VALUES {
-            return Written::Length;
+            return EncodeAnswer::Refused(Refusal::Length);
         }
         if words.len() != WORDS {
-            return Written::Length;
+            return EncodeAnswer::Refused(Refusal::Length);
         }
         block_words::write(values, words);
-        Written::Done
+        EncodeAnswer::Done
     }
 
     // The nearest codeword in place of the 38 words that were read, where it is within two places. Where none is, or where the length is
     // another, nothing is written.
-    pub fn scrub(words: &mut [u16]) -> Outcome
+    pub fn scrub(words: &mut [u16]) -> BlockAnswer
         ensures { λ r. ⌜ Scrubbed (now (words .entry)) r (now (words .exit)) ⌝ }
     {
         if words.len() != WORDS {
-            return Outcome::Length;
+            return BlockAnswer::Refused(Refusal::Length);
         }
         let s = block_words::syndrome(words);
         if block_code::is_none(s) {
-            return Outcome::Clean;
+            return BlockAnswer::Done(BlockVerdict::Clean);
         }
         mend(words, s)
     }

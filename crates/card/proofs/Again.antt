@@ -10,21 +10,19 @@ use Rattle.words.specs.Bytes.{bytesOf}
 use Rattle.words.proofs.Digits.{length-digits}
 use Rattle.words.proofs.Lists.{map-twice}
 use Rattle.words.proofs.Bytes.{length-bytes, below-map}
-use Rattle.codes.specs.Verdict.{flipsOf, scrubbed}
-use Rattle.codes.specs.Tally.{isClean, isMended, isLost, sumBy}
+use Rattle.codes.specs.Verdict.{scrubbed}
+use Rattle.codes.specs.Tally.{tallyOf, Again}
 use Rattle.codes.proofs.Tally.{scrubbed-lt}
 use Rattle.grid_code.specs.Code.{gridCode}
 use Rattle.grid_code.proofs.Promises as grid
-use Rattle.page.specs.Calls.{tallyOf}
-use Rattle.page.specs.Promises as page
-use Rattle.page.proofs.Promises.{laws, tally-again}
+use Rattle.page.proofs.Promises.{laws}
 use Rattle.block_code.specs.Code.{blockCode}
 use Rattle.block_code.proofs.Promises as blocks
 use Rattle.image.specs.Card.{Part, grids, block, Card, gridsIn, blocksIn, head, partBytes, partsBytes, frontOf, imageOf}
 use Rattle.image.specs.Promises.{ProperPart, AllProper, Proper}
-use Rattle.card_scrub.specs.Calls.{scrubbedPart, scrubbedCard, talliesOf}
+use Rattle.card_scrub.specs.Calls.{scrubbedPart, scrubbedCard}
 use Rattle.card_scrub.proofs.Parts.{block-laws}
-use Rattle.card.specs.Promises.{SameFrame, Again}
+use Rattle.card.specs.Promises.{SameFrame}
 
 -- ---- its grids and its blocks
 
@@ -47,19 +45,13 @@ same-frame c = record {
 }
 
 -- what is counted the second time
-pub second : (ps : List Part) → Again (talliesOf ps) (talliesOf (map scrubbedPart ps))
-second ps =
-    let bs = blocksIn ps in
-    record {
-      grids = subst (λ ws. page.Again (tallyOf (gridsIn ps)) (tallyOf ws)) (sym (grids-scrubbed ps)) (tally-again (gridsIn ps));
-      blocks = record {
-        blocks = ap length (blocks-scrubbed ps) ∙ length-map bs (scrubbed blockCode);
-        clean-now = ap (sumBy blockCode isClean) (blocks-scrubbed ps) ∙ block-laws .again-clean bs;
-        none-mended = ap (sumBy blockCode isMended) (blocks-scrubbed ps) ∙ block-laws .again-mended bs;
-        same-lost = ap (sumBy blockCode isLost) (blocks-scrubbed ps) ∙ block-laws .again-lost bs;
-        no-flips = ap (sumBy blockCode flipsOf) (blocks-scrubbed ps) ∙ block-laws .again-flips bs;
-      };
-    }
+pub second : (ps : List Part)
+    → Again (tallyOf gridCode (gridsIn ps)) (tallyOf gridCode (gridsIn (map scrubbedPart ps)))
+    × Again (tallyOf blockCode (blocksIn ps)) (tallyOf blockCode (blocksIn (map scrubbedPart ps)))
+second ps = (
+  subst (λ ws. Again (tallyOf gridCode (gridsIn ps)) (tallyOf gridCode ws)) (sym (grids-scrubbed ps)) (laws .again (gridsIn ps)),
+  subst (λ ws. Again (tallyOf blockCode (blocksIn ps)) (tallyOf blockCode ws)) (sym (blocks-scrubbed ps)) (block-laws .again (blocksIn ps)),
+)
 
 -- ---- it can stand in an image
 
@@ -128,8 +120,8 @@ same-length c =
 -- ---- a second scrub changes nothing
 
 part-twice : (p : Part) → scrubbedPart (scrubbedPart p) ≡ scrubbedPart p
-part-twice (grids ws) = ap grids (map-twice (scrubbed gridCode) (laws .again) ws)
-part-twice (block w) = ap block (block-laws .again w)
+part-twice (grids ws) = ap grids (map-twice (scrubbed gridCode) (laws .unchanged) ws)
+part-twice (block w) = ap block (block-laws .unchanged w)
 
 pub twice : (c : Card) → scrubbedCard (scrubbedCard c) ≡ scrubbedCard c
 twice c = λ i. record { title = c .title; parts = map-twice scrubbedPart part-twice (c .parts) i }

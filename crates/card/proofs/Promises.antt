@@ -1,97 +1,76 @@
 -- What specs/Promises.antt says of the card's calls holds: by the promises of an image, and by the laws of the tally. Assumes nothing.
-use mathlib.Core.Path.{_≡_, refl, sym, ap, _∙_, subst}
-use mathlib.Core.Bool.{Bool, true, false}
+use mathlib.Core.Path.{_≡_, sym, ap, _∙_, subst}
+use mathlib.Core.Logic.{_≢_}
+use mathlib.Core.Bool.{true}
 use mathlib.Core.List.{List, [], _++_, map, append-nil}
-use Prim.Native.Nat.{ℕ, _+_, _≤_, _<_}
-use native.Mathlib.Decide.{decLe}
+use Prim.Native.Nat.{ℕ, _+_, _≤_}
 use native.Mathlib.Omega.{arith}
-use lib.Dec.{leb, eqb}
 use lib.ListN.{length, take, drop, length-map}
-use borrow.Author.Tests.{le-leb, lt-leb}
-use Rattle.words.specs.Word.{choose}
 use Rattle.words.specs.Digits.{Below}
 use Rattle.words.specs.Bytes.{laid}
 use Rattle.words.proofs.Bytes.{take-laid, drop-laid}
+use Rattle.refusals.specs.Reply.{gives}
+use Rattle.refusals.proofs.Promises.{nothing-given}
+use Rattle.codes.specs.Tally.{AddsUp, Again}
 use Rattle.grid_code.specs.Code.{codeword}
 use Rattle.page.proofs.Promises.{laws}
 use Rattle.fields.specs.Fields.{firstBad}
-use Rattle.image.specs.Card.{Card, Found, sound, broken, gridsIn, blocksIn, cardOf, imageOf}
-use Rattle.image.specs.Calls.{byFound, Checked}
+use Rattle.image.specs.declared.CheckAnswer.{CheckAnswer}
+use Rattle.image.specs.Card.{Card, sound, mostBytes, gridsIn, blocksIn, cardOf, imageOf}
+use Rattle.image.specs.Answer.{means as checkMeans}
+use Rattle.image.specs.Calls.{Checked}
 use Rattle.image.specs.Promises.{Proper}
-use Rattle.image.specs.declared.Outcome.{Outcome}
-use Rattle.image.specs.declared.Outcome.the-variants.{Sound}
+use Rattle.image.proofs.Checking.{checked-long, checked-found, Decided, card-found, no-card, decided}
 use Rattle.image.proofs.Promises.{promised}
-use Rattle.image.proofs.Judged.{judged-long, judged-as}
-use Rattle.card_scrub.specs.declared.Tallies.{Tallies}
 use Rattle.card_scrub.specs.declared.ScrubAnswer.{ScrubAnswer}
-use Rattle.card_scrub.specs.declared.ScrubAnswer.the-variants.{Done, Length, Broken}
-use Rattle.card_scrub.specs.Answer.{numberOf as scrubNumber, placeOf as scrubPlace}
-use Rattle.card_scrub.specs.Calls.{scrubbedPart, scrubbedCard, talliesOf, Scrubbed}
+use Rattle.card_scrub.specs.declared.ScrubAnswer.the-variants.{Refused as ScrubRefused}
+use Rattle.card_scrub.specs.Answer.{BothTallies, bothTallies, means as scrubMeans}
+use Rattle.card_scrub.specs.Calls.{scrubbedPart, scrubbedCard, Scrubbed}
 use Rattle.card_scrub.proofs.Parts.{block-laws}
 use Rattle.card_write.specs.declared.WriteAnswer.{WriteAnswer}
-use Rattle.card_write.specs.declared.WriteAnswer.the-variants.{Done as WriteDone, Length as WriteLength, Title, Room}
-use Rattle.card_write.specs.Answer.{numberOf as writeNumber, placeOf as writePlace}
+use Rattle.card_write.specs.Answer.{means as writeMeans}
 use Rattle.card_write.specs.Calls.{cardOn, cardWith, sizeWritten, lengthsAllowed, Wrote}
-use Rattle.card_write.proofs.Writes.{is-long, is-bad, is-short, is-done}
+use Rattle.card_write.proofs.Writes as write
+use Rattle.card_write.proofs.Writes.{no-image, image-written, same, not-allowed, bad-byte, no-room, done}
 use Rattle.card_read.specs.Calls.{Read}
-use Rattle.card.specs.Promises.{Again, ScrubPromises, Switched, WritePromises, OneOutcome}
+use Rattle.card_read.proofs.Readings as read
+use Rattle.card.specs.Promises.{ScrubPromises, Switched, WritePromises, OneOutcome}
 use Rattle.card.proofs.Again.{same-frame, second, still-proper, same-length, twice}
 use Rattle.card.proofs.Switches.{put-right, none-switched, no-flips, length-on, lengths, few, found-on, read-on}
 
 -- ---- scrub
 
-abbrev counted : Card → ScrubAnswer
-counted c = Done (talliesOf (c .parts))
+module _ {s exit : List ℕ} {r : ScrubAnswer} (h : Scrubbed s r exit) where
+  found : (c : Card) → length s ≤ mostBytes → cardOf s ≡ sound c → (scrubMeans r ≡ gives (bothTallies (c .parts))) × (exit ≡ imageOf (scrubbedCard c))
+  found c l e = (ap scrubMeans (h .answer ∙ checked-found s ScrubRefused _ l e), h .after ∙ checked-found s (λ why. s) _ l e)
 
-abbrev mended : Card → List ℕ
-mended c = imageOf (scrubbedCard c)
-
-module _ (s exit : List ℕ) (r : ScrubAnswer) (h : Scrubbed s r exit) where
-  long : 32768 < length s → (r ≡ Length) × (exit ≡ s)
-  long l =
-      let e = lt-leb (length s) 32768 l in
-      (h .answer ∙ judged-long s Length Broken counted e, h .after ∙ judged-long s s _ _ e)
-
-  told : length s ≤ 32768 → {x : Found Card} → cardOf s ≡ x → (r ≡ byFound Broken counted x) × (exit ≡ byFound (λ at. s) mended x)
-  told l f =
-      let e = le-leb (length s) 32768 l in
-      (h .answer ∙ judged-as s Length Broken counted e f, h .after ∙ judged-as s s (λ at. s) mended e f)
+  not-scrubbed : ((t : BothTallies) → scrubMeans r ≢ gives t) → exit ≡ s
+  not-scrubbed n = go (decided s)
+    where
+      go : Decided s → exit ≡ s
+      go (card-found c l e) = absurd (n (bothTallies (c .parts)) (found c l e .0))
+      go (no-card why f) = h .after ∙ f (List ℕ) (λ why. s) _
 
 -- what was done, and is no refusal
-record AfterScrub (s exit : List ℕ) (t : Tallies) : Type 0 where
+record AfterScrub (s exit : List ℕ) (t : BothTallies) : Type 0 where
   pub card : Card
-  pub few : length s ≤ 32768
+  pub few : length s ≤ mostBytes
   pub is : cardOf s ≡ sound card
-  pub tally : t ≡ talliesOf (card .parts)
+  pub tally : t ≡ bothTallies (card .parts)
   pub after : exit ≡ imageOf (scrubbedCard card)
 
-tallies-in : ScrubAnswer → Tallies → Tallies
-tallies-in (Done t) u = t
-tallies-in Length u = u
-tallies-in (Broken k) u = u
-
-module _ (s exit : List ℕ) (t : Tallies) (h : Scrubbed s (Done t) exit) where
+module _ (s exit : List ℕ) (r : ScrubAnswer) (t : BothTallies) (h : Scrubbed s r exit) (m : scrubMeans r ≡ gives t) where
   after-scrub : AfterScrub s exit t
-  unfolding tallies-in
-  after-scrub = go (decLe (length s) 32768) (cardOf s) refl
+  after-scrub = go (decided s)
     where
-      go : Dec (length s ≤ 32768) → (x : Found Card) → cardOf s ≡ x → AfterScrub s exit t
-      go (yes l) (sound c) e =
-          let (a, b) = told s exit (Done t) h l e in
-          record { card = c; few = l; is = e; tally = ap (λ r. tallies-in r t) a; after = b }
-      go (yes l) (broken k) e = absurd (omega (arith, ap scrubNumber (told s exit (Done t) h l e .0)))
-      go (no l) x e = absurd (omega (arith, ap scrubNumber (long s exit (Done t) h (omega arith) .0)))
+      go : Decided s → AfterScrub s exit t
+      go (card-found c l e) = let (a, b) = found h c l e in record { card = c; few = l; is = e; tally = cc; after = b }
+      go (no-card why f) = nothing-given why (sym (ap scrubMeans (h .answer ∙ f ScrubAnswer ScrubRefused _)) ∙ m)
 
-  sums : (t .grids .grids ≡ t .grids .clean + t .grids .mended + t .grids .lost)
-      × (t .blocks .blocks ≡ t .blocks .clean + t .blocks .mended + t .blocks .lost)
+  sums : AddsUp (t .grids) × AddsUp (t .blocks)
   sums =
-      let e = after-scrub .tally in
-      let ps = after-scrub .card .parts in (
-        ap (λ t. t .grids .grids) e ∙ laws .all (gridsIn ps)
-            ∙ sym (ap (λ t. t .grids .clean + t .grids .mended + t .grids .lost) e),
-        ap (λ t. t .blocks .blocks) e ∙ block-laws .all (blocksIn ps)
-            ∙ sym (ap (λ t. t .blocks .clean + t .blocks .mended + t .blocks .lost) e),
-      )
+      let ps = after-scrub .card .parts in
+      subst (λ t. AddsUp (t .grids) × AddsUp (t .blocks)) (sym (after-scrub .tally)) (laws .all (gridsIn ps), block-laws .all (blocksIn ps))
 
   module _ (b : Below 8 s) where
     abbrev card : Card
@@ -106,72 +85,51 @@ module _ (s exit : List ℕ) (t : Tallies) (h : Scrubbed s (Done t) exit) where
     long-now : length exit ≡ length s
     long-now = ap length (after-scrub .after) ∙ same-length card ∙ ap length (shape .1)
 
-    again : (r : ScrubAnswer) (last : List ℕ) → Scrubbed exit r last → (u : Tallies) × (r ≡ Done u) × Again t u × (last ≡ exit)
-    again r last k =
-        let (a, e) = told exit last r k (omega (arith, after-scrub .few, long-now)) is-now in
-        let u = talliesOf (map scrubbedPart (card .parts)) in
-        let more = subst (λ t. Again t u) (sym (after-scrub .tally)) (second (card .parts)) in
-        (u, a, more, e ∙ ap imageOf (twice card) ∙ sym (after-scrub .after))
+    again : (q : ScrubAnswer) (last : List ℕ) → Scrubbed exit q last
+        → (u : BothTallies) × (scrubMeans q ≡ gives u) × Again (t .grids) (u .grids) × Again (t .blocks) (u .blocks) × (last ≡ exit)
+    again q last k =
+        let (a, e) = found k (scrubbedCard card) (omega (arith, after-scrub .few, long-now)) is-now in
+        let u = bothTallies (map scrubbedPart (card .parts)) in
+        let (g, b) =
+        subst (λ t. Again (t .grids) (u .grids) × Again (t .blocks) (u .blocks)) (sym (after-scrub .tally)) (second (card .parts)) in
+        (u, a, g, b, e ∙ ap imageOf (twice card) ∙ sym (after-scrub .after))
 
 pub scrub-promised : ScrubPromises
 scrub-promised = record {
-  long = λ s exit r l h. let (a, e) = long s exit r h l in (ap scrubNumber a, e);
-  broken-image = λ s exit at r l x h. let (a, e) = told s exit r h l x in (ap scrubNumber a, ap scrubPlace a, e);
-  done = λ s exit c r l x h. told s exit r h l x;
-  sums = λ s exit t h. sums s exit t h;
-  stays = λ s exit t b h.
-      let c = after-scrub s exit t h .card in
-      (c, after-scrub s exit t h .is, is-now s exit t h b, same-frame c, long-now s exit t h b);
-  again = λ s once last t r b h. again s once t h b r last;
+  long = λ s exit r l h. ap scrubMeans (h .answer ∙ checked-long s ScrubRefused _ l);
+  broken-image = λ s exit at r l e h. ap scrubMeans (h .answer ∙ checked-found s ScrubRefused _ l e);
+  refused = λ s exit r h n. not-scrubbed h n;
+  done = λ s exit c r l e h. found h c l e;
+  sums = sums;
+  stays = λ s exit r t b h m.
+      let done = after-scrub s exit r t h m in
+      (done .card, done .is, is-now s exit r t h m b, same-frame (done .card), long-now s exit r t h m b);
+  again = λ s once last r q t b h m. again s once r t h m b q last;
 }
 
 -- ---- write
 
--- by the three tests
-abbrev tested : {A : Type 0} → Bool → Bool → Bool → A → A → A → A → A
-tested a b c long bad short done = choose a (choose b (choose c done short) bad) long
-
-module _ (title ns image exit : List ℕ) (r : WriteAnswer) (h : Wrote title ns image r exit) where
-  abbrev Answers : Bool → Bool → Bool → Type 0
-  Answers a b c = r ≡ tested a b c WriteLength (Title (firstBad title)) Room (WriteDone (sizeWritten title ns))
-
-  not-written : (writeNumber r ≡ 0 → ⊥) → exit ≡ image
-  not-written n =
-      go _ (lengthsAllowed title ns) (eqb (firstBad title) (length title)) (leb (sizeWritten title ns) (length image)) (h .answer) (h .after)
-    where
-      go : (done : List ℕ) (a b c : Bool) → Answers a b c → exit ≡ tested a b c image image image done → exit ≡ image
-      go done true true true e f = absurd (n (ap writeNumber e))
-      go done true true false e f = f
-      go done true false c e f = f
-      go done false b c e f = f
+not-written : {title ns image exit : List ℕ} {r : WriteAnswer} → Wrote title ns image r exit → ((k : ℕ) → writeMeans r ≢ gives k) → exit ≡ image
+not-written {title} {ns} {image} {exit} h n = go (write.decided title ns image)
+  where
+    go : write.Decided title ns image → exit ≡ image
+    go (no-image why d) = same h d .1
+    go (image-written a g d) = absurd (n (sizeWritten title ns) (ap writeMeans (same h d .0)))
 
 -- what was done, and is no refusal
 record AfterWrite (title ns image exit : List ℕ) (k : ℕ) : Type 0 where
   pub allowed : lengthsAllowed title ns ≡ true
-  pub good : eqb (firstBad title) (length title) ≡ true
+  pub good : firstBad title ≡ length title
   pub long : k ≡ sizeWritten title ns
   pub after : exit ≡ laid (imageOf (cardWith title ns)) image
 
-size-in : WriteAnswer → ℕ
-size-in (WriteDone k) = k
-size-in WriteLength = 0
-size-in (Title k) = 0
-size-in Room = 0
-
-module _ (title ns image exit : List ℕ) (k : ℕ) (h : Wrote title ns image (WriteDone k) exit) where
+module _ (title ns image exit : List ℕ) (r : WriteAnswer) (k : ℕ) (h : Wrote title ns image r exit) (m : writeMeans r ≡ gives k) where
   after-write : AfterWrite title ns image exit k
-  unfolding size-in
-  after-write =
-      go (lengthsAllowed title ns) (eqb (firstBad title) (length title)) (leb (sizeWritten title ns) (length image)) refl refl
-      (h .answer) (h .after)
+  after-write = go (write.decided title ns image)
     where
-      go : (a b c : Bool) → lengthsAllowed title ns ≡ a → eqb (firstBad title) (length title) ≡ b
-          → WriteDone k ≡ tested a b c WriteLength (Title (firstBad title)) Room (WriteDone (sizeWritten title ns))
-          → exit ≡ tested a b c image image image (laid (imageOf (cardWith title ns)) image) → AfterWrite title ns image exit k
-      go true true true a b e f = record { allowed = a; good = b; long = ap size-in e; after = f }
-      go true true false a b e f = absurd (omega (arith, ap writeNumber e))
-      go true false c a b e f = absurd (omega (arith, ap writeNumber e))
-      go false b c a q e f = absurd (omega (arith, ap writeNumber e))
+      go : write.Decided title ns image → AfterWrite title ns image exit k
+      go (no-image why d) = nothing-given why (sym (ap writeMeans (same h d .0)) ∙ m)
+      go (image-written a g d) = let (p, q) = same h d in record { allowed = a; good = g; long = cc (ap writeMeans p); after = q }
 
   size-is : length (imageOf (cardWith title ns)) ≡ k
   size-is = let l = length-map ns codeword in omega (arith, length-on title (map codeword ns), l, after-write .long)
@@ -189,44 +147,43 @@ module _ (title ns image exit : List ℕ) (k : ℕ) (h : Wrote title ns image (W
     is-sound : cardOf (take k exit) ≡ sound (cardWith title ns)
     is-sound = ap cardOf image-is ∙ found-on title ns (after-write .allowed) (after-write .good) (map codeword ns) none
 
-    checks : (r : Outcome) → Checked (take k exit) r → r ≡ Sound (length ns) 0
-    checks r c =
+    checks : (q : CheckAnswer) → Checked (take k exit) q → checkMeans q ≡ gives (record { grids = length ns; blocks = 0 })
+    checks q c =
         let l = lengths title ns (after-write .allowed) in
         let m : length (map codeword ns ++ []) ≡ length ns = ap length (append-nil (map codeword ns)) ∙ length-map ns codeword in
-        promised .sound-checked (take k exit) (cardWith title ns) r (omega (arith, ap length image-is, size-is, after-write .long, l))
+        promised .sound-checked (take k exit) (cardWith title ns) q (omega (arith, ap length image-is, size-is, after-write .long, l))
         is-sound c
-        ∙ ap (λ (n : ℕ). Sound n 0) m
+        ∙ ap (λ (n : ℕ). gives (record { grids = n; blocks = 0 })) m
 
     -- with lamps switched
-    restored : (ws last : List ℕ) (r : ScrubAnswer) → Switched ns ws → Scrubbed (imageOf (cardOn title ws)) r last
-        → (scrubNumber r ≡ 0) × (last ≡ take k exit)
-    restored ws last r s d =
-        let (a, e) = told (imageOf (cardOn title ws)) last r d (few title ns (after-write .allowed) (after-write .good) ws s)
+    restored : (ws last : List ℕ) (q : ScrubAnswer) → Switched ns ws → Scrubbed (imageOf (cardOn title ws)) q last
+        → (scrubMeans q ≡ gives (bothTallies (cardOn title ws .parts))) × (last ≡ take k exit)
+    restored ws last q s d =
+        let (a, e) = found d (cardOn title ws) (few title ns (after-write .allowed) (after-write .good) ws s)
         (found-on title ns (after-write .allowed) (after-write .good) ws s) in
-        (ap scrubNumber a, e ∙ ap (λ ws. imageOf (cardOn title ws)) (put-right ns ws small s) ∙ sym image-is)
+        (a, e ∙ ap (λ ws. imageOf (cardOn title ws)) (put-right ns ws small s) ∙ sym image-is)
 
 pub write-promised : WritePromises
 write-promised = record {
-  refused = λ title ns image exit r h n. not-written title ns image exit r h n;
-  lengths = λ title ns image exit r h e. ap writeNumber (h .answer ∙ is-long title ns image WriteLength Title Room (WriteDone (sizeWritten title ns)) e);
-  bad-byte = λ title ns image exit r h e n.
-      let a = h .answer ∙ is-bad title ns image WriteLength Title Room (WriteDone (sizeWritten title ns)) e n in (ap writeNumber a, ap writePlace a);
-  short = λ title ns image exit r h e n l. ap writeNumber (h .answer ∙ is-short title ns image WriteLength Title Room (WriteDone (sizeWritten title ns)) e n l);
-  accepted = λ title ns image exit r h e n l. h .answer ∙ is-done title ns image WriteLength Title Room (WriteDone (sizeWritten title ns)) e n l;
-  written = λ title ns image exit k h.
-      (after-write title ns image exit k h .long, image-is title ns image exit k h, behind-is title ns image exit k h);
-  is-sound = λ title ns image exit k small h. is-sound title ns image exit k h small;
-  checks = λ title ns image exit k r small h c. checks title ns image exit k h small r c;
-  reads-back = λ title ns image exit title₀ ns₀ flips₀ title₁ ns₁ flips₁ k r small h l m j d.
-      let w = after-write title ns image exit k h in
+  refused = λ title ns image exit r h n. not-written h n;
+  lengths = λ title ns image exit r h e. ap writeMeans (same h (not-allowed title ns image e) .0);
+  bad-byte = λ title ns image exit r h e n. ap writeMeans (same h (bad-byte title ns image e n) .0);
+  short = λ title ns image exit r h e n l. ap writeMeans (same h (no-room title ns image e n l) .0);
+  accepted = λ title ns image exit r h e n l. ap writeMeans (same h (done title ns image e n l) .0);
+  written = λ title ns image exit r k h m.
+      (after-write title ns image exit r k h m .long, image-is title ns image exit r k h m, behind-is title ns image exit r k h m);
+  is-sound = λ title ns image exit r k small h m. is-sound title ns image exit r k h m small;
+  checks = λ title ns image exit r k q small h m c. checks title ns image exit r k h m small q c;
+  reads-back = λ title ns image exit title₀ ns₀ flips₀ title₁ ns₁ flips₁ r k q small h m l₀ l₁ l₂ d.
+      let w = after-write title ns image exit r k h m in
       let (a, t, n, f) =
-      read-on title ns (w .allowed) (w .good) (map codeword ns) (none-switched ns small) title₀ ns₀ flips₀ l m j r title₁ ns₁ flips₁ small
-      (subst (λ s. Read s title₀ ns₀ flips₀ r title₁ ns₁ flips₁) (image-is title ns image exit k h) d) in
+      read-on title ns (w .allowed) (w .good) (map codeword ns) (none-switched ns small) title₀ ns₀ flips₀ l₀ l₁ l₂ q title₁ ns₁ flips₁ small
+      (subst (λ s. Read s title₀ ns₀ flips₀ q title₁ ns₁ flips₁) (image-is title ns image exit r k h m) d) in
       (a, t, n, f ∙ ap (λ l. laid l flips₀) (no-flips ns small));
-  restored = λ title ns image exit ws last k r small h s d. restored title ns image exit k h small ws last r s d;
-  read-before = λ title ns image exit ws title₀ ns₀ flips₀ title₁ ns₁ flips₁ k r small h s l m j d.
-      let w = after-write title ns image exit k h in
-      let (a, t, n, f) = read-on title ns (w .allowed) (w .good) ws s title₀ ns₀ flips₀ l m j r title₁ ns₁ flips₁ small d in
+  restored = λ title ns image exit ws last r k q small h m s d. restored title ns image exit r k h m small ws last q s d;
+  read-before = λ title ns image exit ws title₀ ns₀ flips₀ title₁ ns₁ flips₁ r k q small h m s l₀ l₁ l₂ d.
+      let w = after-write title ns image exit r k h m in
+      let (a, t, n, f) = read-on title ns (w .allowed) (w .good) ws s title₀ ns₀ flips₀ l₀ l₁ l₂ q title₁ ns₁ flips₁ small d in
       (a, t, n);
 }
 
@@ -235,11 +192,6 @@ write-promised = record {
 pub one-outcome : OneOutcome
 one-outcome = record {
   scrub = λ s a b r q x y. (x .answer ∙ sym (y .answer), x .after ∙ sym (y .after));
-  write = λ title ns image a b r q x y. (x .answer ∙ sym (y .answer), x .after ∙ sym (y .after));
-  read = λ image title ns flips t₁ n₁ f₁ t₂ n₂ f₂ r q x y. (
-    x .answer ∙ sym (y .answer),
-    x .title-after ∙ sym (y .title-after),
-    x .numbers-after ∙ sym (y .numbers-after),
-    x .flips-after ∙ sym (y .flips-after),
-  );
+  write = λ title ns image a b r q x y. same x y;
+  read = λ image title ns flips t₁ n₁ f₁ t₂ n₂ f₂ r q x y. read.same x y;
 }

@@ -1,14 +1,14 @@
 -- The card of a title and of grids with at most seven lamps switched in each: it can stand in an image, reads as what was written, and is
 -- put right as it was written. Assumes nothing.
 use mathlib.Core.Path.{_≡_, sym, ap, _∙_}
-use mathlib.Core.Bool.{Bool, true, _&&_, and-eq-true-iff}
+use mathlib.Core.Bool.{true, and-eq-true-iff}
 use mathlib.Core.List.{List, [], _++_, map, append-nil}
 use Prim.Native.Nat.{ℕ, _+_, _*_, _≤_, _<_}
 use native.Mathlib.Omega.{arith}
-use lib.Dec.{leb, eqb}
+use lib.Dec.{leb}
 use lib.ListN.{length, getD, replicate, length-map, length-replicate, getD-replicate}
 use lib.Seq.{ext-getD}
-use borrow.Author.Tests.{leb-true, le-leb}
+use borrow.Author.Tests.{leb-true, eq-eqb}
 use Rattle.words.specs.Word.{dist}
 use Rattle.words.specs.Digits.{Below}
 use Rattle.words.specs.Bytes.{laid}
@@ -17,19 +17,21 @@ use Rattle.words.proofs.Lists.{map-getD}
 use Rattle.words.proofs.Dist.{dist-self}
 use Rattle.codes.specs.Verdict.{Verdict, clean, mended, lost, off, verdict, repaired, scrubbed}
 use Rattle.codes.specs.Promises.{Hands}
+use Rattle.refusals.specs.Reply.{gives}
 use Rattle.grid_code.specs.Code.{codeword, gridCode}
 use Rattle.grid_code.proofs.Promises.{promised}
-use Rattle.fields.specs.Fields.{titleLength, firstBad, isTitle}
+use Rattle.page.specs.Calls.{mostGrids}
+use Rattle.fields.specs.Fields.{titleMost, titleLength, firstBad}
 use Rattle.fields.proofs.Titles.{title-length}
-use Rattle.image.specs.Card.{grids, Card, gridsIn, sound, cardOf, partBytes, partsBytes, imageOf}
+use Rattle.image.specs.Card.{grids, sound, mostBytes, cardOf, partBytes, partsBytes, imageOf}
 use Rattle.image.specs.Promises.{Proper}
 use Rattle.image.proofs.Promises as image
 use Rattle.card_write.specs.Calls.{cardOn, lengthsAllowed}
 use Rattle.value_read.specs.Shown.{dataShown, flipsShown, dataOfGrid, flipsOfGrid, dataOfGrids, flipsOfGrids}
 use Rattle.card_read.specs.declared.ReadAnswer.{ReadAnswer}
-use Rattle.card_read.specs.declared.ReadAnswer.the-variants.{Done, Length, Broken, Room}
-use Rattle.card_read.specs.Calls.{roomFor, readAs, Read}
-use Rattle.card_read.proofs.Readings.{roomy, read-by-room}
+use Rattle.card_read.specs.Answer.{means}
+use Rattle.card_read.specs.Calls.{roomFor, Read}
+use Rattle.card_read.proofs.Readings.{roomy, same, all-read}
 use Rattle.card.specs.Promises.{Switched}
 use Rattle.card.proofs.Again.{grids-long, card-long}
 
@@ -98,25 +100,21 @@ length-on title ws = omega (arith, card-long (cardOn title ws), ap length (appen
 
 -- what the writer's tests say
 module _ (title ns : List ℕ) (allowed : lengthsAllowed title ns ≡ true) where
-  pub lengths : (1 ≤ length title) × (length title ≤ 24) × (length ns ≤ 512)
-  lengths =
-      let (t, n) = and-eq-true-iff (titleLength (length title)) (leb (length ns) 512) .0 allowed in
-      let (l, m) = title-length (length title) t in
-      (l, m, leb-true (length ns) 512 n)
+  tests : (titleLength (length title) ≡ true) × (leb (length ns) mostGrids ≡ true)
+  tests = and-eq-true-iff (titleLength (length title)) (leb (length ns) mostGrids) .0 allowed
 
-  titled : eqb (firstBad title) (length title) ≡ true → isTitle title ≡ true
-  titled good =
-      ap (λ (b : Bool). b && eqb (firstBad title) (length title)) (and-eq-true-iff (titleLength (length title)) (leb (length ns) 512) .0 allowed .0) ∙ good
+  pub lengths : (length title ≤ titleMost) × (length ns ≤ mostGrids)
+  lengths = (title-length (length title) (tests .0) .1, leb-true (length ns) mostGrids (tests .1))
 
-  module _ (good : eqb (firstBad title) (length title) ≡ true) (ws : List ℕ) (s : Switched ns ws) where
+  module _ (good : firstBad title ≡ length title) (ws : List ℕ) (s : Switched ns ws) where
     pub proper-on : Proper (cardOn title ws)
     proper-on = record {
-      title = titled good;
+      title = rw (tests .0, eq-eqb (firstBad title) (length title) good);
       few = omega arith;
       each = ((omega (arith, s .many, lengths), s .words), tt);
     }
 
-    pub few : length (imageOf (cardOn title ws)) ≤ 32768
+    pub few : length (imageOf (cardOn title ws)) ≤ mostBytes
     few = omega (arith, length-on title ws, s .many, lengths)
 
     pub found-on : cardOf (imageOf (cardOn title ws)) ≡ sound (cardOn title ws)
@@ -131,25 +129,14 @@ module _ (title ns : List ℕ) (allowed : lengthsAllowed title ns ≡ true) wher
       room : roomFor (cardOn title ws) title₀ ns₀ flips₀ ≡ true
       room = roomy title₀ ns₀ flips₀ (cardOn title ws) l (omega (arith, m, many)) (omega (arith, k, many))
 
-      read-as : {A : Type 0} (long : A) (breaks : ℕ → A) (short : A) (whole : Card → A)
-          → readAs (imageOf (cardOn title ws)) title₀ ns₀ flips₀ long breaks short whole ≡ whole (cardOn title ws)
-      read-as long breaks short whole =
-          read-by-room (imageOf (cardOn title ws)) title₀ ns₀ flips₀ long breaks short whole (cardOn title ws)
-          (le-leb (length (imageOf (cardOn title ws))) 32768 few) found-on room
-
       pub read-on : (r : ReadAnswer) (title₁ ns₁ flips₁ : List ℕ) → Below 16 ns
           → Read (imageOf (cardOn title ws)) title₀ ns₀ flips₀ r title₁ ns₁ flips₁
-          → (r ≡ Done (length title) (length ns)) × (title₁ ≡ laid title title₀) × (ns₁ ≡ laid ns ns₀)
+          → (means r ≡ gives (record { title = length title; grids = length ns })) × (title₁ ≡ laid title title₀) × (ns₁ ≡ laid ns ns₀)
           × (flips₁ ≡ laid (flipsOfGrids ws) flips₀)
-      read-on r title₁ ns₁ flips₁ small d = (
-        d .answer
-            ∙ read-as Length Broken Room (λ c. Done (length (c .title)) (length (gridsIn (c .parts))))
-            ∙ ap (Done (length title)) many,
-        d .title-after ∙ read-as title₀ (λ at. title₀) title₀ (λ c. laid (c .title) title₀),
-        d .numbers-after
-            ∙ read-as ns₀ (λ at. ns₀) ns₀ (λ c. laid (dataOfGrids (gridsIn (c .parts))) ns₀)
-            ∙ ap (λ l. laid l ns₀) (ap dataOfGrids (append-nil ws) ∙ numbers-read ns ws small s),
-        d .flips-after
-            ∙ read-as flips₀ (λ at. flips₀) flips₀ (λ c. laid (flipsOfGrids (gridsIn (c .parts))) flips₀)
-            ∙ ap (λ l. laid (flipsOfGrids l) flips₀) (append-nil ws),
-      )
+      read-on r title₁ ns₁ flips₁ small d =
+          let (a, t, n, f) = same d (all-read (imageOf (cardOn title ws)) title₀ ns₀ flips₀ (cardOn title ws) few found-on room) in (
+            ap means a ∙ ap (λ (n : ℕ). gives (record { title = length title; grids = n })) many,
+            t,
+            n ∙ ap (λ l. laid l ns₀) (ap dataOfGrids (append-nil ws) ∙ numbers-read ns ws small s),
+            f ∙ ap (λ l. laid (flipsOfGrids l) flips₀) (append-nil ws),
+          )

@@ -9,27 +9,23 @@ use lib.ListN.{length, getD, take, drop, replicate}
 use Rattle.words.specs.Word.{dist}
 use Rattle.words.specs.Digits.{Below}
 use Rattle.words.specs.Bytes.{laid}
-use Rattle.grid_code.specs.Code.{codeword}
-use Rattle.page.specs.Promises as page
-use Rattle.fields.specs.Fields.{firstBad}
-use Rattle.image.specs.Card.{Card, sound, broken, gridsIn, blocksIn, cardOf, imageOf}
+use Rattle.refusals.specs.Reply.{gives, refuses, refusesAt}
+use Rattle.codes.specs.Tally.{AddsUp, Again}
+use Rattle.grid_code.specs.Code.{codeword, gridCode}
+use Rattle.fields.specs.Fields.{headBytes, firstBad}
+use Rattle.image.specs.declared.CheckAnswer.{CheckAnswer}
+use Rattle.image.specs.Card.{Card, sound, broken, mostBytes, gridsIn, blocksIn, cardOf, imageOf}
+use Rattle.image.specs.Answer.{means as checkMeans}
 use Rattle.image.specs.Calls.{Checked}
-use Rattle.image.specs.declared.Outcome.{Outcome}
-use Rattle.image.specs.declared.Outcome.the-variants.{Sound}
-use Rattle.value_scrub.specs.declared.Blocks.{Blocks}
-use Rattle.card_scrub.specs.declared.Tallies.{Tallies}
 use Rattle.card_scrub.specs.declared.ScrubAnswer.{ScrubAnswer}
-use Rattle.card_scrub.specs.declared.ScrubAnswer.the-variants.{Done}
-use Rattle.card_scrub.specs.Answer.{numberOf as scrubNumber, placeOf as scrubPlace}
-use Rattle.card_scrub.specs.Calls.{talliesOf, scrubbedCard, Scrubbed}
+use Rattle.card_scrub.specs.Answer.{BothTallies, bothTallies, means as scrubMeans}
+use Rattle.card_scrub.specs.Calls.{scrubbedCard, Scrubbed}
 use Rattle.card_write.specs.declared.WriteAnswer.{WriteAnswer}
-use Rattle.card_write.specs.declared.WriteAnswer.the-variants.{Done as WriteDone}
-use Rattle.card_write.specs.Answer.{numberOf as writeNumber, placeOf as writePlace}
+use Rattle.card_write.specs.Answer.{means as writeMeans}
 use Rattle.card_write.specs.Calls.{cardOn, cardWith, sizeWritten, lengthsAllowed, Wrote}
 use Rattle.value_read.specs.Shown.{dataOfGrids, flipsOfGrids}
 use Rattle.card_read.specs.declared.ReadAnswer.{ReadAnswer}
-use Rattle.card_read.specs.declared.ReadAnswer.the-variants.{Done as ReadDone}
-use Rattle.card_read.specs.Answer.{numberOf as readNumber, placeOf as readPlace}
+use Rattle.card_read.specs.Answer.{Lengths, means as readMeans}
 use Rattle.card_read.specs.Calls.{roomFor, Read}
 
 -- the same card, as far as a scrub goes: title, numbers of grids and of blocks
@@ -38,105 +34,90 @@ pub record SameFrame (c d : Card) : Type 0 where
   pub grids-many : length (gridsIn (d .parts)) ≡ length (gridsIn (c .parts))
   pub blocks-many : length (blocksIn (d .parts)) ≡ length (blocksIn (c .parts))
 
--- what a second scrub finds: of blocks, ..
-pub record AgainBlocks (first second : Blocks) : Type 0 where
-  pub blocks : second .blocks ≡ first .blocks
-  pub clean-now : second .clean ≡ first .clean + first .mended
-  pub none-mended : second .mended ≡ 0
-  pub same-lost : second .lost ≡ first .lost
-  pub no-flips : second .flips ≡ 0
-
--- .. and of both
-pub record Again (first second : Tallies) : Type 0 where
-  pub grids : page.Again (first .grids) (second .grids)
-  pub blocks : AgainBlocks (first .blocks) (second .blocks)
-
 -- What the scrub promises.
 pub record ScrubPromises : Type 0 where
-  -- Over 32,768 bytes: 3; broken: 4 with the place; and nothing is written.
-  pub long : (s exit : List ℕ) (r : ScrubAnswer) → 32768 < length s → Scrubbed s r exit → (scrubNumber r ≡ 3) × (exit ≡ s)
-  pub broken-image : (s exit : List ℕ) (at : ℕ) (r : ScrubAnswer) → length s ≤ 32768 → cardOf s ≡ broken at → Scrubbed s r exit
-      → (scrubNumber r ≡ 4) × (scrubPlace r ≡ at) × (exit ≡ s)
+  -- Over 32,768 bytes: 3; broken: 4 with the place.
+  pub long : (s exit : List ℕ) (r : ScrubAnswer) → mostBytes < length s → Scrubbed s r exit → scrubMeans r ≡ refuses 3
+  pub broken-image : (s exit : List ℕ) (at : ℕ) (r : ScrubAnswer) → length s ≤ mostBytes → cardOf s ≡ broken at → Scrubbed s r exit
+      → scrubMeans r ≡ refusesAt 4 at
+  -- A call that gives nothing writes nothing.
+  pub refused : (s exit : List ℕ) (r : ScrubAnswer) → Scrubbed s r exit → ((t : BothTallies) → scrubMeans r ≢ gives t) → exit ≡ s
   -- A sound image is scrubbed, whatever its grids and blocks are: none of them is a refusal of the call.
-  pub done : (s exit : List ℕ) (c : Card) (r : ScrubAnswer) → length s ≤ 32768 → cardOf s ≡ sound c → Scrubbed s r exit
-      → (r ≡ Done (talliesOf (c .parts))) × (exit ≡ imageOf (scrubbedCard c))
+  pub done : (s exit : List ℕ) (c : Card) (r : ScrubAnswer) → length s ≤ mostBytes → cardOf s ≡ sound c → Scrubbed s r exit
+      → (scrubMeans r ≡ gives (bothTallies (c .parts))) × (exit ≡ imageOf (scrubbedCard c))
   -- Each number is the sum of clean, mended and lost.
-  pub sums : (s exit : List ℕ) (t : Tallies) → Scrubbed s (Done t) exit
-      → (t .grids .grids ≡ t .grids .clean + t .grids .mended + t .grids .lost)
-      × (t .blocks .blocks ≡ t .blocks .clean + t .blocks .mended + t .blocks .lost)
+  pub sums : (s exit : List ℕ) (r : ScrubAnswer) (t : BothTallies) → Scrubbed s r exit → scrubMeans r ≡ gives t
+      → AddsUp (t .grids) × AddsUp (t .blocks)
   -- The image stays sound and as long as it was, and holds the scrubbed card: the same title, and as many grids and blocks.
-  pub stays : (s exit : List ℕ) (t : Tallies) → Below 8 s → Scrubbed s (Done t) exit
+  pub stays : (s exit : List ℕ) (r : ScrubAnswer) (t : BothTallies) → Below 8 s → Scrubbed s r exit → scrubMeans r ≡ gives t
       → (c : Card) × (cardOf s ≡ sound c) × (cardOf exit ≡ sound (scrubbedCard c)) × SameFrame c (scrubbedCard c) × (length exit ≡ length s)
   -- A second scrub changes nothing, and finds 0 mended.
-  pub again : (s once twice : List ℕ) (t : Tallies) (r : ScrubAnswer) → Below 8 s → Scrubbed s (Done t) once → Scrubbed once r twice
-      → (u : Tallies) × (r ≡ Done u) × Again t u × (twice ≡ once)
+  pub again : (s once twice : List ℕ) (r q : ScrubAnswer) (t : BothTallies) → Below 8 s → Scrubbed s r once → scrubMeans r ≡ gives t
+      → Scrubbed once q twice
+      → (u : BothTallies) × (scrubMeans q ≡ gives u) × Again (t .grids) (u .grids) × Again (t .blocks) (u .blocks) × (twice ≡ once)
 
 -- ws are the grids of the numbers ns, each with at most seven lamps switched
 pub record Switched (ns ws : List ℕ) : Type 0 where
   pub many : length ws ≡ length ns
   pub words : Below 64 ws
-  pub few : (i : ℕ) → i < length ns → dist (getD ws i 0) (codeword (getD ns i 0)) ≤ 7
+  pub few : (i : ℕ) → i < length ns → dist (getD ws i 0) (codeword (getD ns i 0)) ≤ gridCode .radius
 
 -- What the writer promises.
 pub record WritePromises : Type 0 where
   -- A title of no bytes or of over 24, or over 512 numbers: 3; else a bad title byte: 4 with its place; else too little room: 6; else it is done.
   pub lengths : (title ns image exit : List ℕ) (r : WriteAnswer) → Wrote title ns image r exit → lengthsAllowed title ns ≡ false
-      → writeNumber r ≡ 3
+      → writeMeans r ≡ refuses 3
   pub bad-byte : (title ns image exit : List ℕ) (r : WriteAnswer) → Wrote title ns image r exit → lengthsAllowed title ns ≡ true
-      → firstBad title ≢ length title → (writeNumber r ≡ 4) × (writePlace r ≡ firstBad title)
+      → firstBad title ≢ length title → writeMeans r ≡ refusesAt 4 (firstBad title)
   pub short : (title ns image exit : List ℕ) (r : WriteAnswer) → Wrote title ns image r exit → lengthsAllowed title ns ≡ true
-      → firstBad title ≡ length title → length image < sizeWritten title ns → writeNumber r ≡ 6
+      → firstBad title ≡ length title → length image < sizeWritten title ns → writeMeans r ≡ refuses 6
   pub accepted : (title ns image exit : List ℕ) (r : WriteAnswer) → Wrote title ns image r exit → lengthsAllowed title ns ≡ true
-      → firstBad title ≡ length title → sizeWritten title ns ≤ length image → r ≡ WriteDone (sizeWritten title ns)
-  -- A refused call writes nothing.
-  pub refused : (title ns image exit : List ℕ) (r : WriteAnswer) → Wrote title ns image r exit → writeNumber r ≢ 0 → exit ≡ image
+      → firstBad title ≡ length title → sizeWritten title ns ≤ length image → writeMeans r ≡ gives (sizeWritten title ns)
+  -- A call that gives nothing writes nothing.
+  pub refused : (title ns image exit : List ℕ) (r : WriteAnswer) → Wrote title ns image r exit → ((k : ℕ) → writeMeans r ≢ gives k)
+      → exit ≡ image
   -- What is written is an image of 9 + t + 8n bytes; room behind it stays as it was.
-  pub written : (title ns image exit : List ℕ) (k : ℕ) → Wrote title ns image (WriteDone k) exit
-      → (k ≡ 9 + length title + 8 * length ns) × (take k exit ≡ imageOf (cardWith title ns)) × (drop k exit ≡ drop k image)
+  pub written : (title ns image exit : List ℕ) (r : WriteAnswer) (k : ℕ) → Wrote title ns image r exit → writeMeans r ≡ gives k
+      → (k ≡ 3 * headBytes + length title + 8 * length ns) × (take k exit ≡ imageOf (cardWith title ns)) × (drop k exit ≡ drop k image)
   -- It is sound, ..
-  pub is-sound : (title ns image exit : List ℕ) (k : ℕ) → Below 16 ns → Wrote title ns image (WriteDone k) exit
-      → cardOf (take k exit) ≡ sound (cardWith title ns)
+  pub is-sound : (title ns image exit : List ℕ) (r : WriteAnswer) (k : ℕ) → Below 16 ns → Wrote title ns image r exit
+      → writeMeans r ≡ gives k → cardOf (take k exit) ≡ sound (cardWith title ns)
   -- .. checks as n grids and 0 blocks, ..
-  pub checks : (title ns image exit : List ℕ) (k : ℕ) (r : Outcome) → Below 16 ns → Wrote title ns image (WriteDone k) exit
-      → Checked (take k exit) r → r ≡ Sound (length ns) 0
+  pub checks : (title ns image exit : List ℕ) (r : WriteAnswer) (k : ℕ) (q : CheckAnswer) → Below 16 ns → Wrote title ns image r exit
+      → writeMeans r ≡ gives k → Checked (take k exit) q → checkMeans q ≡ gives (record { grids = length ns; blocks = 0 })
   -- .. and reads back as the same title and numbers, with flips 0, given room.
-  pub reads-back : (title ns image exit title₀ ns₀ flips₀ title₁ ns₁ flips₁ : List ℕ) (k : ℕ) (r : ReadAnswer) → Below 16 ns
-      → Wrote title ns image (WriteDone k) exit → length title ≤ length title₀ → length ns ≤ length ns₀ → length ns ≤ length flips₀
-      → Read (take k exit) title₀ ns₀ flips₀ r title₁ ns₁ flips₁
-      → (r ≡ ReadDone (length title) (length ns)) × (title₁ ≡ laid title title₀) × (ns₁ ≡ laid ns ns₀)
+  pub reads-back : (title ns image exit title₀ ns₀ flips₀ title₁ ns₁ flips₁ : List ℕ) (r : WriteAnswer) (k : ℕ) (q : ReadAnswer)
+      → Below 16 ns → Wrote title ns image r exit → writeMeans r ≡ gives k → length title ≤ length title₀ → length ns ≤ length ns₀
+      → length ns ≤ length flips₀ → Read (take k exit) title₀ ns₀ flips₀ q title₁ ns₁ flips₁
+      → (readMeans q ≡ gives (record { title = length title; grids = length ns })) × (title₁ ≡ laid title title₀) × (ns₁ ≡ laid ns ns₀)
       × (flips₁ ≡ laid (replicate (length ns) 0) flips₀)
   -- After at most seven flips in each grid of it, and none elsewhere, a scrub restores the image as written, ..
-  pub restored : (title ns image exit ws after : List ℕ) (k : ℕ) (r : ScrubAnswer) → Below 16 ns
-      → Wrote title ns image (WriteDone k) exit → Switched ns ws
-      → Scrubbed (imageOf (cardOn title ws)) r after → (scrubNumber r ≡ 0) × (after ≡ take k exit)
+  pub restored : (title ns image exit ws after : List ℕ) (r : WriteAnswer) (k : ℕ) (q : ScrubAnswer) → Below 16 ns
+      → Wrote title ns image r exit → writeMeans r ≡ gives k → Switched ns ws → Scrubbed (imageOf (cardOn title ws)) q after
+      → (scrubMeans q ≡ gives (bothTallies (cardOn title ws .parts))) × (after ≡ take k exit)
   -- .. and reading back before the scrub already gives the same title and numbers.
-  pub read-before : (title ns image exit ws title₀ ns₀ flips₀ title₁ ns₁ flips₁ : List ℕ) (k : ℕ) (r : ReadAnswer) → Below 16 ns
-      → Wrote title ns image (WriteDone k) exit → Switched ns ws → length title ≤ length title₀ → length ns ≤ length ns₀
-      → length ns ≤ length flips₀
-      → Read (imageOf (cardOn title ws)) title₀ ns₀ flips₀ r title₁ ns₁ flips₁
-      → (r ≡ ReadDone (length title) (length ns)) × (title₁ ≡ laid title title₀) × (ns₁ ≡ laid ns ns₀)
+  pub read-before : (title ns image exit ws title₀ ns₀ flips₀ title₁ ns₁ flips₁ : List ℕ) (r : WriteAnswer) (k : ℕ) (q : ReadAnswer)
+      → Below 16 ns → Wrote title ns image r exit → writeMeans r ≡ gives k → Switched ns ws → length title ≤ length title₀
+      → length ns ≤ length ns₀ → length ns ≤ length flips₀ → Read (imageOf (cardOn title ws)) title₀ ns₀ flips₀ q title₁ ns₁ flips₁
+      → (readMeans q ≡ gives (record { title = length title; grids = length ns })) × (title₁ ≡ laid title title₀) × (ns₁ ≡ laid ns ns₀)
 
 -- What reading back promises.
 pub record ReadPromises : Type 0 where
-  -- A refused call writes nothing.
-  pub refused : (image title ns flips title′ ns′ flips′ : List ℕ) (r : ReadAnswer) → Read image title ns flips r title′ ns′ flips′
-      → readNumber r ≢ 0
-      → (title′ ≡ title) × (ns′ ≡ ns) × (flips′ ≡ flips)
   -- Over 32,768 bytes: 3; else broken: 4 with the place; else a slice that is too short: 6; else it is done.
-  pub long : (image title ns flips title′ ns′ flips′ : List ℕ) (r : ReadAnswer) → 32768 < length image
-      → Read image title ns flips r title′ ns′ flips′
-      → readNumber r ≡ 3
-  pub broken-image : (image title ns flips title′ ns′ flips′ : List ℕ) (at : ℕ) (r : ReadAnswer) → length image ≤ 32768
-      → cardOf image ≡ broken at
-      → Read image title ns flips r title′ ns′ flips′ → (readNumber r ≡ 4) × (readPlace r ≡ at)
-  pub short : (image title ns flips title′ ns′ flips′ : List ℕ) (c : Card) (r : ReadAnswer) → length image ≤ 32768 → cardOf image ≡ sound c
-      → Read image title ns flips r title′ ns′ flips′ → roomFor c title ns flips ≡ false → readNumber r ≡ 6
-  pub accepted : (image title ns flips title′ ns′ flips′ : List ℕ) (c : Card) (r : ReadAnswer) → length image ≤ 32768
-      → cardOf image ≡ sound c
-      → Read image title ns flips r title′ ns′ flips′ → roomFor c title ns flips ≡ true
-      → (r ≡ ReadDone (length (c .title)) (length (gridsIn (c .parts)))) × (title′ ≡ laid (c .title) title)
+  pub long : (image title ns flips title′ ns′ flips′ : List ℕ) (r : ReadAnswer) → mostBytes < length image
+      → Read image title ns flips r title′ ns′ flips′ → readMeans r ≡ refuses 3
+  pub broken-image : (image title ns flips title′ ns′ flips′ : List ℕ) (at : ℕ) (r : ReadAnswer) → length image ≤ mostBytes
+      → cardOf image ≡ broken at → Read image title ns flips r title′ ns′ flips′ → readMeans r ≡ refusesAt 4 at
+  pub short : (image title ns flips title′ ns′ flips′ : List ℕ) (c : Card) (r : ReadAnswer) → length image ≤ mostBytes
+      → cardOf image ≡ sound c → Read image title ns flips r title′ ns′ flips′ → roomFor c title ns flips ≡ false → readMeans r ≡ refuses 6
+  pub accepted : (image title ns flips title′ ns′ flips′ : List ℕ) (c : Card) (r : ReadAnswer) → length image ≤ mostBytes
+      → cardOf image ≡ sound c → Read image title ns flips r title′ ns′ flips′ → roomFor c title ns flips ≡ true
+      → (readMeans r ≡ gives (record { title = length (c .title); grids = length (gridsIn (c .parts)) })) × (title′ ≡ laid (c .title) title)
       × (ns′ ≡ laid (dataOfGrids (gridsIn (c .parts))) ns)
       × (flips′ ≡ laid (flipsOfGrids (gridsIn (c .parts))) flips)
+  -- A call that gives nothing writes nothing.
+  pub refused : (image title ns flips title′ ns′ flips′ : List ℕ) (r : ReadAnswer) → Read image title ns flips r title′ ns′ flips′
+      → ((v : Lengths) → readMeans r ≢ gives v) → (title′ ≡ title) × (ns′ ≡ ns) × (flips′ ≡ flips)
 
 -- No second outcome satisfies the statement of a call.
 pub record OneOutcome : Type 0 where

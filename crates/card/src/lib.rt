@@ -7,4 +7,6 @@ pub use card_scrub::Tallies;
 pub use card_scrub::scrub;
 pub use card_write::WriteAnswer;
 pub use card_write::write;
+pub use refusals::Place;
+pub use refusals::Refusal;
 pub use value_scrub::Blocks;

@@ -1,17 +1,14 @@
 -- What the answer of reading back says, in document 01's terms. Assumes nothing.
 use Prim.Native.Nat.{ℕ}
+use Rattle.refusals.specs.Reply.{Reply, gives, refusal}
 use Rattle.card_read.specs.declared.ReadAnswer.{ReadAnswer}
-use Rattle.card_read.specs.declared.ReadAnswer.the-variants.{Done, Length, Broken, Room}
+use Rattle.card_read.specs.declared.ReadAnswer.the-variants.{Done, Refused}
 
--- Document 01's number for each answer, and the place of the break.
-abbrev pub numberOf : ReadAnswer → ℕ
-numberOf (Done t n) = 0
-numberOf Length = 3
-numberOf (Broken at) = 4
-numberOf Room = 6
+-- the title's length, and the number of grids
+pub record Lengths : Type 0 where
+  pub title : ℕ
+  pub grids : ℕ
 
-abbrev pub placeOf : ReadAnswer → ℕ
-placeOf (Done t n) = 0
-placeOf Length = 0
-placeOf (Broken at) = at
-placeOf Room = 0
+abbrev pub means : ReadAnswer → Reply Lengths
+means (Done t g) = gives (record { title = t; grids = g })
+means (Refused why) = refusal why

@@ -5,7 +5,7 @@ use Prim.Native.Nat.{ℕ, _≤_}
 use lib.ListN.{length}
 use Rattle.words.specs.Bytes.{laid}
 use Rattle.image.specs.Card.{Part, sound, gridsIn, walk}
-use Rattle.values.specs.Steps.{Walks}
+use Rattle.image.specs.Steps.{Walks}
 use Rattle.value_read.specs.Shown.{dataOfGrids, flipsOfGrids}
 
 -- sound, with room for each grid

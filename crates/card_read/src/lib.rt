@@ -2,19 +2,20 @@
 //
 // The image is checked as a whole before anything is written (crate image), so a refused call leaves all that it was lent as it was.
 //
-// specs/Calls.antt says what the call answers and leaves, and specs/Answer.antt document 01's number for each answer. What is shown of a
+// specs/Calls.antt says what the call answers and leaves, and specs/Answer.antt what that is in document 01's terms. What is shown of a
 // grid is in the crate value_read.
 ghost use Rattle.card_read.specs.Calls.{Read};
 ghost use Rattle.card_read.specs.Steps.{ReadsGrids, ReadsFields};
+use fields::BLOCK;
 use fields::Field;
-use image::Outcome;
+use fields::HEAD;
+use image::CheckAnswer;
+use refusals::Refusal;
 
-// The title's length and the number of grids; or refused for the image's length, for a break at an offset, or for want of room.
+// The title's length and the number of grids, or a refusal.
 pub enum ReadAnswer {
     Done { title: usize, grids: usize },
-    Length,
-    Broken(usize),
-    Room,
+    Refused(Refusal),
 }
 
 // The grids of the data fields at the front of a slice, up to the end field.
@@ -24,13 +25,14 @@ fn read_fields(rest: &[u8], numbers: &mut [u16], flips: &mut [u8])
 {
     match fields::front(rest) {
         Field::Grids(n) => {
-            let end = fields::HEAD + n;
+            let end = HEAD + n;
             let k = n / 8;
-            value_read::grids(&rest[3..end], numbers, flips);
+            value_read::grids(&rest[HEAD..end], numbers, flips);
             read_fields(&rest[end..], &mut numbers[k..], &mut flips[k..]);
         }
         Field::Block => {
-            read_fields(&rest[79..], numbers, flips);
+            let end = HEAD + BLOCK;
+            read_fields(&rest[end..], numbers, flips);
         }
         _ => {}
     }
@@ -41,21 +43,20 @@ pub fn read(image: &[u8], title: &mut [u8], numbers: &mut [u16], flips: &mut [u8
     ensures { λ r. ⌜ Read (now (image .entry)) (now (title .entry)) (now (numbers .entry)) (now (flips .entry)) r (now (title .exit)) (now (numbers .exit)) (now (flips .exit)) ⌝ }
 {
     match image::check(image) {
-        Outcome::Length => ReadAnswer::Length,
-        Outcome::Broken(at) => ReadAnswer::Broken(at),
-        Outcome::Sound { grids, blocks: _ } => {
+        CheckAnswer::Refused(why) => ReadAnswer::Refused(why),
+        CheckAnswer::Done { grids, blocks: _ } => {
             let name = image::title(image);
             if title.len() < name.len() {
-                return ReadAnswer::Room;
+                return ReadAnswer::Refused(Refusal::Room);
             }
             if numbers.len() < grids {
-                return ReadAnswer::Room;
+                return ReadAnswer::Refused(Refusal::Room);
             }
             if flips.len() < grids {
-                return ReadAnswer::Room;
+                return ReadAnswer::Refused(Refusal::Room);
             }
             values::copy(name, title);
-            let end = fields::HEAD + name.len();
+            let end = HEAD + name.len();
             read_fields(&image[end..], numbers, flips);
             ReadAnswer::Done {
                 title: name.len(),

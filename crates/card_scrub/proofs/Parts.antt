@@ -14,7 +14,7 @@ use Rattle.codes.specs.Tally.{isClean, isMended, isLost, TallyPromises}
 use Rattle.codes.proofs.Tally.{sum-append, tallies}
 use Rattle.grid_code.specs.Code.{gridCode}
 use Rattle.page.specs.declared.Tally.{Tally}
-use Rattle.page.specs.Calls.{tallyOf}
+use Rattle.page.specs.Calls.{gridTally}
 use Rattle.block_code.specs.Code.{blockCode}
 use Rattle.block_code.proofs.Promises.{promised}
 use Rattle.fields.specs.declared.Field.the-variants.{Grids, Block}
@@ -22,9 +22,9 @@ use Rattle.fields.specs.Fields.{value, fieldOf}
 use Rattle.fields.proofs.Fields.{Stands, known, length-value, grids-size}
 use Rattle.image.specs.Card.{Card, gridsIn, blocksIn, head, partBytes, partsBytes, frontOf, imageOf}
 use Rattle.image.proofs.Shape.{split}
-use Rattle.values.specs.Steps.{Walks}
-use Rattle.values.proofs.Judging.{Inside, stands, title-long}
-use Rattle.values.proofs.Walks.{less, grids-front, block-front, bounded}
+use Rattle.image.specs.Steps.{Walks}
+use Rattle.image.proofs.Walks.{less, grids-front, block-front, bounded}
+use Rattle.image.proofs.Checking.{Begins}
 use Rattle.value_scrub.specs.declared.Blocks.{Blocks}
 use Rattle.value_scrub.specs.Tally.{blockTally}
 use Rattle.value_scrub.specs.Steps.{bothGrids, RoomyGrids, ScrubbedGrids, ScrubbedBlock}
@@ -91,7 +91,7 @@ module _ (s part v e : List ℕ) (n : ℕ) (r : Tally) (t : Tallies) (b : Below 
         let front = grids-front at s ps left n f w in
         let rest = there .answer (less left) (at + (3 + n)) (front .behind) (front .found) in
         (λ i. record {
-          grids = bothGrids ((here .answer ∙ ap tallyOf words-are) i) (rest i .grids);
+          grids = bothGrids ((here .answer ∙ ap gridTally words-are) i) (rest i .grids);
           blocks = rest i .blocks;
         })
         ∙ sym (λ i. record { grids = tally-two ws (gridsIn (front .behind)) i; blocks = blockTally (blocksIn (front .behind)) })
@@ -159,7 +159,7 @@ blocks-few ws vs p q =
     let few = block-laws .flips in
     let all = block-laws .all in
     record {
-      blocks = omega arith;
+      words = omega arith;
       clean = omega (arith, all ws, all vs);
       mended = omega (arith, all ws, all vs);
       lost = omega (arith, all ws, all vs);
@@ -176,7 +176,7 @@ grids-together s part v e n r t w f is here there =
     let long : length part ≤ 32768 = omega (arith, ap length is, length-value s (omega (arith, st .size-is, st .room)), st .size-is, st .room, w .few) in
     let ws = wordsIn 8 (length part / 8) part in
     subst (λ r. RoomyGrids r (t .grids)) (sym (here .answer))
-    (subst (λ t. RoomyGrids (tallyOf ws) (t .grids)) (sym rest)
+    (subst (λ t. RoomyGrids (gridTally ws) (t .grids)) (sym rest)
     (grids-few 4096 ws (gridsIn (front .behind)) (omega (arith, long, length-words 8 (length part / 8) part))
     (omega (arith, few, length-drop (3 + n) s, w .few)) (omega arith)))
 
@@ -193,18 +193,17 @@ blocks-together s part v e r t w f here there =
 
 -- ---- the whole image
 
-module _ (s : List ℕ) (c : Card) (i : Inside s c) where
-  -- the image, with its fields scrubbed
-  pub scrubbed-image : (k : ℕ) (e : List ℕ) → k ≡ 3 + i .length-is → Below 8 s → e ≡ partsBytes (map scrubbedPart (c .parts)) ++ head 127 0
-      → take k s ++ (e ++ drop (length s - k) (drop k s)) ≡ imageOf (scrubbedCard c)
-  unfolding frontOf imageOf
-  scrubbed-image k e is b h =
-      let few : length (drop k s) ≤ length s - k = omega (arith, length-drop k s) in
-      let long : length (value s) ≡ i .length-is = sym (ap length (i .title-is)) ∙ title-long s c i in
-      let front : take k s ≡ head 1 (length (c .title)) ++ c .title =
-      ap₂ (λ (k : ℕ) (l : List ℕ). take k l) is (split 1 (i .length-is) s b (stands s c i))
-      ∙ take-at (head 1 (i .length-is) ++ value s) (drop (3 + i .length-is) s) (3 + i .length-is)
-      (omega (arith, long, length-append (head 1 (i .length-is)) (value s)))
-      ∙ ap₂ (λ (n : ℕ) (v : List ℕ). head 1 n ++ v) (sym (title-long s c i)) (sym (i .title-is)) in
-      ap₂ {C = List ℕ} (λ (a b : List ℕ). a ++ b) front (ap (λ b. e ++ b) (drop-of-length-le (drop k s) few) ∙ append-nil e ∙ h)
-      ∙ sym (append-assoc (head 1 (length (c .title)) ++ c .title) (partsBytes (map scrubbedPart (c .parts))) (head 127 0))
+-- with its fields scrubbed, where the title r ends
+pub scrubbed-image : (s r e : List ℕ) (c : Card) → Begins s c → r ≡ c .title → Below 8 s → e ≡ partsBytes (map scrubbedPart (c .parts)) ++ head 127 0
+    → take (3 + length r) s ++ (e ++ drop (length s - (3 + length r)) (drop (3 + length r) s)) ≡ imageOf (scrubbedCard c)
+unfolding frontOf imageOf
+scrubbed-image s r e c start is b h =
+    let k = 3 + length r in
+    let n = length (c .title) in
+    let few : length (drop k s) ≤ length s - k = omega (arith, length-drop k s) in
+    let whole : s ≡ head 1 n ++ c .title ++ drop (3 + n) s =
+    split 1 n s b (known s (start .titled-so) .0) ∙ ap (λ v. head 1 n ++ v ++ drop (3 + n) s) (sym (start .title-value)) in
+    let front : take k s ≡ head 1 n ++ c .title =
+    ap (take k) whole ∙ take-at (head 1 n ++ c .title) (drop (3 + n) s) k (omega (arith, ap length is, length-append (head 1 n) (c .title))) in
+    ap₂ {C = List ℕ} (λ (a b : List ℕ). a ++ b) front (ap (λ b. e ++ b) (drop-of-length-le (drop k s) few) ∙ append-nil e ∙ h)
+    ∙ sym (append-assoc (head 1 n ++ c .title) (partsBytes (map scrubbedPart (c .parts))) (head 127 0))

@@ -1,15 +1,24 @@
 -- What the answer of a scrub says, in document 01's terms. Assumes nothing.
-use Prim.Native.Nat.{ℕ}
+use mathlib.Core.List.{List}
+use Rattle.refusals.specs.Reply.{Reply, gives, refusal}
+use Rattle.codes.specs.Tally.{Tally, tallyOf}
+use Rattle.grid_code.specs.Code.{gridCode}
+use Rattle.page.specs.Answer.{tallyIn as gridsTally}
+use Rattle.block_code.specs.Code.{blockCode}
+use Rattle.image.specs.Card.{Part, gridsIn, blocksIn}
+use Rattle.value_scrub.specs.Tally.{tallyIn as blocksTally}
 use Rattle.card_scrub.specs.declared.ScrubAnswer.{ScrubAnswer}
-use Rattle.card_scrub.specs.declared.ScrubAnswer.the-variants.{Done, Length, Broken}
+use Rattle.card_scrub.specs.declared.ScrubAnswer.the-variants.{Done, Refused}
 
--- Document 01's number for each answer, and the place of the break.
-abbrev pub numberOf : ScrubAnswer → ℕ
-numberOf (Done t) = 0
-numberOf Length = 3
-numberOf (Broken at) = 4
+-- the five numbers of the grids, and those of the blocks
+pub record BothTallies : Type 0 where
+  pub grids : Tally
+  pub blocks : Tally
 
-abbrev pub placeOf : ScrubAnswer → ℕ
-placeOf (Done t) = 0
-placeOf Length = 0
-placeOf (Broken at) = at
+abbrev pub means : ScrubAnswer → Reply BothTallies
+means (Done t) = gives (record { grids = gridsTally (t .grids); blocks = blocksTally (t .blocks) })
+means (Refused why) = refusal why
+
+-- those of data fields
+abbrev pub bothTallies : List Part → BothTallies
+bothTallies ps = record { grids = tallyOf gridCode (gridsIn ps); blocks = tallyOf blockCode (blocksIn ps) }

@@ -4,14 +4,17 @@
 // scrubbed one behind the other, each value by itself (crate value_scrub): a lost grid or block is counted, stays as it is, and is no
 // refusal of the call.
 //
-// specs/Calls.antt says what the call answers and leaves, and specs/Answer.antt document 01's number for each answer.
+// specs/Calls.antt says what the call answers and leaves, and specs/Answer.antt what that is in document 01's terms.
 ghost use mathlib.Core.Path.{_≡_};
-ghost use Rattle.values.specs.Steps.{Walks};
+ghost use Rattle.image.specs.Steps.{Walks};
 ghost use Rattle.card_scrub.specs.Calls.{Scrubbed};
 ghost use Rattle.card_scrub.specs.Steps.{ScrubbedFields, RoomyBlocks, withBlocks};
+use fields::BLOCK;
 use fields::Field;
-use image::Outcome;
+use fields::HEAD;
+use image::CheckAnswer;
 use page::Tally;
+use refusals::Refusal;
 use value_scrub::Blocks;
 
 pub struct Tallies {
@@ -19,11 +22,10 @@ pub struct Tallies {
     pub blocks: Blocks,
 }
 
-// A scrub that was done; refused for the image's length; or for a break at an offset.
+// The tallies of a scrub that was done, or a refusal.
 pub enum ScrubAnswer {
     Done(Tallies),
-    Length,
-    Broken(usize),
+    Refused(Refusal),
 }
 
 // A block's tally, with that of what stands behind it.
@@ -52,8 +54,8 @@ fn scrub_fields(rest: &mut [u8]) -> Tallies
 {
     match fields::front(rest) {
         Field::Grids(n) => {
-            let end = fields::HEAD + n;
-            let here = value_scrub::grids(&mut rest[3..end]);
+            let end = HEAD + n;
+            let here = value_scrub::grids(&mut rest[HEAD..end]);
             let there = scrub_fields(&mut rest[end..]);
             let grids = there.grids;
             let blocks = there.blocks;
@@ -63,12 +65,13 @@ fn scrub_fields(rest: &mut [u8]) -> Tallies
             }
         }
         Field::Block => {
-            let here = value_scrub::block(&mut rest[3..79]);
-            let there = scrub_fields(&mut rest[79..]);
+            let end = HEAD + BLOCK;
+            let here = value_scrub::block(&mut rest[HEAD..end]);
+            let there = scrub_fields(&mut rest[end..]);
             with_block(here, there)
         }
         _ => Tallies {
-            grids: value_scrub::no_grids(),
+            grids: Tally::none(),
             blocks: value_scrub::no_blocks(),
         },
     }
@@ -79,14 +82,13 @@ pub fn scrub(image: &mut [u8]) -> ScrubAnswer
     ensures { λ r. ⌜ Scrubbed (now (image .entry)) r (now (image .exit)) ⌝ }
 {
     match image::check(image) {
-        Outcome::Length => ScrubAnswer::Length,
-        Outcome::Broken(at) => ScrubAnswer::Broken(at),
-        Outcome::Sound {
+        CheckAnswer::Refused(why) => ScrubAnswer::Refused(why),
+        CheckAnswer::Done {
             grids: _,
             blocks: _,
         } => {
             let title = image::title(image).len();
-            let end = fields::HEAD + title;
+            let end = HEAD + title;
             ScrubAnswer::Done(scrub_fields(&mut image[end..]))
         }
     }

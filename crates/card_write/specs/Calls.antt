@@ -8,11 +8,14 @@ use lib.Dec.{leb, eqb}
 use lib.ListN.{length}
 use Rattle.words.specs.Word.{choose}
 use Rattle.words.specs.Bytes.{laid}
+use Rattle.refusals.specs.declared.Refusal.{Refusal}
+use Rattle.refusals.specs.declared.Refusal.the-variants.{Length, Broken, Room}
 use Rattle.grid_code.specs.Code.{codeword}
-use Rattle.fields.specs.Fields.{titleLength, firstBad}
+use Rattle.page.specs.Calls.{mostGrids}
+use Rattle.fields.specs.Fields.{headBytes, titleLength, firstBad}
 use Rattle.image.specs.Card.{grids, Card, imageOf}
 use Rattle.card_write.specs.declared.WriteAnswer.{WriteAnswer}
-use Rattle.card_write.specs.declared.WriteAnswer.the-variants.{Done, Length, Title, Room}
+use Rattle.card_write.specs.declared.WriteAnswer.the-variants.{Done, Refused}
 
 -- the card of a title and one grids field, ..
 abbrev pub cardOn : List ℕ → List ℕ → Card
@@ -24,21 +27,22 @@ cardWith title numbers = cardOn title (map codeword numbers)
 
 -- how many bytes title, one grids field and end have
 abbrev pub sizeWritten : List ℕ → List ℕ → ℕ
-sizeWritten title numbers = 9 + length title + 8 * length numbers
+sizeWritten title numbers = 3 * headBytes + length title + 8 * length numbers
 
 -- the length of a title, and 0 to 512 numbers
 abbrev pub lengthsAllowed : List ℕ → List ℕ → Bool
-lengthsAllowed title numbers = titleLength (length title) && leb (length numbers) 512
+lengthsAllowed title numbers = titleLength (length title) && leb (length numbers) mostGrids
 
--- 3 for a length that is not allowed, then 4 for the first bad title byte, then 6 for an image slice that is too short
-abbrev pub chosen : {A : Type 0} → List ℕ → List ℕ → List ℕ → A → (ℕ → A) → A → A → A
-chosen title numbers image long bad short done =
+-- a length that is not allowed, then the first bad title byte, then an image slice that is too short
+abbrev pub writtenAs : {A : Type 0} → List ℕ → List ℕ → List ℕ → (Refusal → A) → A → A
+writtenAs title numbers image refused done =
     choose (lengthsAllowed title numbers)
-    (choose (eqb (firstBad title) (length title)) (choose (leb (sizeWritten title numbers) (length image)) done short) (bad (firstBad title)))
-    long
+    (choose (eqb (firstBad title) (length title)) (choose (leb (sizeWritten title numbers) (length image)) done (refused Room))
+    (refused (Broken (firstBad title))))
+    (refused Length)
 
 -- `card::write`: the image of the title and the numbers over the front of the slice, and how many bytes it has. Room behind stays untouched.
 -- A refused call writes nothing.
 pub record Wrote (title numbers image : List ℕ) (r : WriteAnswer) (exit : List ℕ) : Type 0 where
-  pub answer : r ≡ chosen title numbers image Length Title Room (Done (sizeWritten title numbers))
-  pub after : exit ≡ chosen title numbers image image (λ at. image) image (laid (imageOf (cardWith title numbers)) image)
+  pub answer : r ≡ writtenAs title numbers image Refused (Done (sizeWritten title numbers))
+  pub after : exit ≡ writtenAs title numbers image (λ why. image) (laid (imageOf (cardWith title numbers)) image)

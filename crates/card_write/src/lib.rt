@@ -1,28 +1,30 @@
 // The writer of card images: title, one grids field, end, laid over the front of a slice.
 //
-// specs/Calls.antt says what the call answers and leaves, and specs/Answer.antt document 01's number for each answer.
+// specs/Calls.antt says what the call answers and leaves, and specs/Answer.antt what that is in document 01's terms.
 ghost use mathlib.Core.Path.{_≡_};
 ghost use mathlib.Core.List.{map, _++_};
 ghost use Prim.Native.Nat.{_+_, _*_, _≤_, _<_};
 ghost use lib.ListN.{length};
 ghost use Rattle.words.specs.Bytes.{bytesOf, laid};
 ghost use Rattle.grid_code.specs.Code.{codeword};
+ghost use Rattle.page.specs.Calls.{mostGrids};
+ghost use Rattle.fields.specs.Fields.{headBytes};
 ghost use Rattle.image.specs.Card.{grids, head, partBytes, imageOf};
 ghost use Rattle.card_write.specs.Calls.{cardWith, Wrote};
 ghost use Rattle.card_write.specs.Steps.{Fits};
+use fields::HEAD;
 use grid::Grid;
+use refusals::Refusal;
 
-// How many bytes were written; or refused for a length, for the title's byte at a place, or for want of room.
+// How many bytes were written, or a refusal.
 pub enum WriteAnswer {
     Done(usize),
-    Length,
-    Title(usize),
-    Room,
+    Refused(Refusal),
 }
 
 // A field's tag and length, high byte first.
 fn head(bytes: &mut [u8], tag: u8, n: usize)
-    requires { ⌜ (3 ≤ length (now bytes)) × (n < 65536) ⌝ }
+    requires { ⌜ (headBytes ≤ length (now bytes)) × (n < 65536) ⌝ }
     ensures { λ r. ⌜ now (bytes .exit) ≡ laid (head tag n) (now (bytes .entry)) ⌝ }
 {
     bytes[0] = tag;
@@ -45,13 +47,13 @@ fn grids(bytes: &mut [u8], numbers: &[u16])
 
 // One grids field, and the end.
 fn lay_grids(numbers: &[u16], image: &mut [u8])
-    requires { ⌜ (length (now numbers) ≤ 512) × (6 + 8 * length (now numbers) ≤ length (now image)) ⌝ }
+    requires { ⌜ (length (now numbers) ≤ mostGrids) × (2 * headBytes + 8 * length (now numbers) ≤ length (now image)) ⌝ }
     ensures { λ r. ⌜ now (image .exit) ≡ laid (partBytes (grids (map codeword (now (numbers .entry)))) ++ head 127 0) (now (image .entry)) ⌝ }
 {
     let size = 8 * numbers.len();
-    let end = 3 + size;
+    let end = HEAD + size;
     head(image, 2, size);
-    grids(&mut image[3..], numbers);
+    grids(&mut image[HEAD..], numbers);
     head(&mut image[end..], 0x7F, 0);
 }
 
@@ -60,9 +62,9 @@ fn lay(title: &[u8], numbers: &[u16], image: &mut [u8])
     requires { ⌜ Fits (now title) (now numbers) (now image) ⌝ }
     ensures { λ r. ⌜ now (image .exit) ≡ laid (imageOf (cardWith (now (title .entry)) (now (numbers .entry)))) (now (image .entry)) ⌝ }
 {
-    let end = 3 + title.len();
+    let end = HEAD + title.len();
     head(image, 1, title.len());
-    values::copy(title, &mut image[3..]);
+    values::copy(title, &mut image[HEAD..]);
     lay_grids(numbers, &mut image[end..]);
 }
 
@@ -71,18 +73,18 @@ pub fn write(title: &[u8], numbers: &[u16], image: &mut [u8]) -> WriteAnswer
     ensures { λ r. ⌜ Wrote (now (title .entry)) (now (numbers .entry)) (now (image .entry)) r (now (image .exit)) ⌝ }
 {
     if !fields::is_title_length(title.len()) {
-        return WriteAnswer::Length;
+        return WriteAnswer::Refused(Refusal::Length);
     }
-    if numbers.len() > page::MOST {
-        return WriteAnswer::Length;
+    if numbers.len() > page::MOST_GRIDS {
+        return WriteAnswer::Refused(Refusal::Length);
     }
     let bad = fields::first_bad(title);
     if bad != title.len() {
-        return WriteAnswer::Title(bad);
+        return WriteAnswer::Refused(Refusal::Broken(bad));
     }
-    let size = 9 + title.len() + 8 * numbers.len();
+    let size = 3 * HEAD + title.len() + 8 * numbers.len();
     if image.len() < size {
-        return WriteAnswer::Room;
+        return WriteAnswer::Refused(Refusal::Room);
     }
     lay(title, numbers, image);
     WriteAnswer::Done(size)

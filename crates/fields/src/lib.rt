@@ -13,7 +13,7 @@ ghost use mathlib.Core.Path.{_≡_};
 ghost use Prim.Native.Nat.{_≤_, _<_};
 ghost use lib.ListN.{length};
 ghost use Rattle.fields.specs.Calls.{Classified, Searched, Measured};
-ghost use Rattle.fields.specs.Fields.{size, isTitle, isGrids, otherField};
+ghost use Rattle.fields.specs.Fields.{headBytes, size, isTitle, isGrids, otherField};
 
 // What stands at the front of a slice. Title and grids come with the length of their value; Fails: at least one rule fails there.
 pub enum Field {
@@ -24,14 +24,20 @@ pub enum Field {
     Fails,
 }
 
-// A field's tag and length, and the bytes of a block.
+// The bytes of a field's tag and length, of a title, of grids at most, and of a block.
 pub const HEAD: usize = 3;
+
+pub const TITLE_LEAST: usize = 1;
+
+pub const TITLE_MOST: usize = 24;
+
+pub const GRIDS_MOST: usize = 4096;
 
 pub const BLOCK: usize = 76;
 
 // The two length bytes of the field at the front, high byte first.
 fn size(rest: &[u8]) -> usize
-    requires { ⌜ 3 ≤ length (now rest) ⌝ }
+    requires { ⌜ headBytes ≤ length (now rest) ⌝ }
     ensures { λ r. ⌜ (r ≡ size (now (rest .entry))) × (r < 65536) ⌝ }
 {
     (rest[1] as usize) * 256 + (rest[2] as usize)
@@ -59,10 +65,10 @@ pub fn first_bad(bytes: &[u8]) -> usize
 pub fn is_title_length(n: usize) -> bool
     ensures { λ r. ⌜ Measured n r ⌝ }
 {
-    if n < 1 {
+    if n < TITLE_LEAST {
         return false;
     }
-    n <= 24
+    n <= TITLE_MOST
 }
 
 // Whether these bytes are the value of a title.
@@ -79,7 +85,7 @@ fn is_title(bytes: &[u8]) -> bool
 fn is_grids(n: usize) -> bool
     ensures { λ r. ⌜ r ≡ isGrids n ⌝ }
 {
-    if n > 4096 {
+    if n > GRIDS_MOST {
         return false;
     }
     n % 8 == 0

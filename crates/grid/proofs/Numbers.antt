@@ -9,11 +9,11 @@ use Rattle.codes.proofs.Tally.{scrubbed-lt}
 use Rattle.grid_code.specs.Code.{gridCode}
 use Rattle.grid_code.proofs.Distance.{codeword-lt}
 use Rattle.grid_code.proofs.Promises.{promised}
-use Rattle.grid.specs.Answer.{means}
+use Rattle.grid.specs.Answer.{verdictOf}
 use Rattle.grid.specs.Calls.{Decoded}
 use Rattle.grid.specs.declared.Answer.{Answer}
 
-pub decoded-verdict : (w : ℕ) (rows : List ℕ) (a : Answer) → w < 2 ^ 64 → rows ≡ digits 8 8 w → Decoded rows a → means (a .verdict) ≡ verdict gridCode w
+pub decoded-verdict : (w : ℕ) (rows : List ℕ) (a : Answer) → w < 2 ^ 64 → rows ≡ digits 8 8 w → Decoded rows a → verdictOf (a .verdict) ≡ verdict gridCode w
 decoded-verdict w rows a l e d = d .answer ∙ ap (verdict gridCode) (ap (joined 8) e ∙ joined-digits 8 8 w l)
 
 pub scrubbed-number : (w : ℕ) → w < 2 ^ 64 → joined 8 (digits 8 8 (scrubbed gridCode w)) ≡ scrubbed gridCode w

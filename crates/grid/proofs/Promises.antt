@@ -1,6 +1,6 @@
 -- What specs/Promises.antt says of the grid's calls holds. Assumes nothing.
 use mathlib.Core.Path.{_≡_, refl, sym, ap, _∙_, subst}
-use mathlib.Core.Logic.{_≢_}
+use mathlib.Core.Logic.{_≢_, inl, inr, ⊎-elim}
 use mathlib.Core.List.{List}
 use Prim.Native.Nat.{ℕ, _^_, _≤_, _<_}
 use lib.Bits.{bitXor, xor-lt}
@@ -10,15 +10,17 @@ use lib.ListN.{length, getD}
 use Rattle.words.specs.Word.{dist}
 use Rattle.words.specs.Digits.{digits, joined}
 use Rattle.words.proofs.Digits.{joined-lt, joined-digits, digits-joined}
-use Rattle.codes.specs.Verdict.{Verdict, clean, mended, lost, answered, verdict, flipsOf, refusal, repaired, scrubbed}
+use Rattle.refusals.specs.declared.Refusal.the-variants.{LostGrid}
+use Rattle.refusals.specs.Reply.{gives}
+use Rattle.codes.specs.Verdict.{Verdict, clean, mended, lost, answered, replied, verdict, flipsOf, repaired, scrubbed}
 use Rattle.codes.specs.Promises.{Demand3}
 use Rattle.codes.specs.Tally.{isClean}
-use Rattle.codes.proofs.Promises.{has-verdict, answered-repaired, clean-word}
-use Rattle.codes.proofs.Tally.{one-refusal, as-it-was}
+use Rattle.codes.proofs.Promises.{has-verdict, answered-given, answered-repaired, clean-word}
+use Rattle.codes.proofs.Tally.{given-or-lost, as-it-was}
 use Rattle.grid_code.specs.Code.{codeword, gridCode}
 use Rattle.grid_code.proofs.Promises.{promised}
 use Rattle.grid_code.proofs.Distance.{codeword-lt}
-use Rattle.grid.specs.Answer.{means, numberOf}
+use Rattle.grid.specs.Answer.{verdictOf, means}
 use Rattle.grid.specs.Calls.{Decoded}
 use Rattle.grid.specs.Promises.{DecodePromises, CleanPromises, OneOutcome}
 use Rattle.grid.specs.declared.Answer.{Answer}
@@ -28,14 +30,14 @@ use Rattle.grid.proofs.Numbers.{scrubbed-number}
 use Rattle.grid.proofs.Verdicts.{judged-clean}
 
 module _ (rows : List ℕ) (r : Answer) (h : Decoded rows r) where
-  as-read : length rows ≡ 8 → ((i : ℕ) → getD rows i 0 < 2 ^ 8) → numberOf (r .verdict) ≢ 0 → r .grid .rows ≡ rows
+  as-read : length rows ≡ 8 → ((i : ℕ) → getD rows i 0 < 2 ^ 8) → ((v : Verdict) → means (r .verdict) ≢ gives v) → r .grid .rows ≡ rows
   as-read n small refused =
       h .repaired
-      ∙ ap (digits 8 8) (as-it-was gridCode 1 (joined 8 rows) (verdict gridCode (joined 8 rows)) (λ z. refused (ap (refusal 1) (h .answer) ∙ z)))
+      ∙ ap (digits 8 8) (as-it-was gridCode LostGrid (joined 8 rows) (verdict gridCode (joined 8 rows)) (λ v z. refused v (ap (replied LostGrid) (h .answer) ∙ z)))
       ∙ digits-joined 8 8 rows n small
 
   changed : length rows ≡ 8 → ((i : ℕ) → getD rows i 0 < 2 ^ 8)
-      → flipsOf (means (r .verdict)) ≡ dist (joined 8 rows) (joined 8 (r .grid .rows))
+      → flipsOf (verdictOf (r .verdict)) ≡ dist (joined 8 rows) (joined 8 (r .grid .rows))
   changed n small =
       let l : joined 8 rows < 2 ^ 64 = joined-lt 8 8 rows n small in
       ap flipsOf (h .answer) ∙ promised .verdicts .changed (joined 8 rows)
@@ -45,9 +47,9 @@ module _ (rows : List ℕ) (r : Answer) (h : Decoded rows r) where
 
   -- the rows are those of a word whose verdict is known
   of-word : (w : ℕ) (v : Verdict) → joined 8 rows ≡ w → verdict gridCode w ≡ v
-      → (means (r .verdict) ≡ v) × (r .grid .rows ≡ digits 8 8 (repaired gridCode w v))
+      → (means (r .verdict) ≡ replied LostGrid v) × (r .grid .rows ≡ digits 8 8 (repaired gridCode w v))
   of-word w v e p = (
-    h .answer ∙ ap (verdict gridCode) e ∙ p,
+    ap (replied LostGrid) (h .answer ∙ ap (verdict gridCode) e ∙ p),
     h .repaired ∙ ap (λ (x : ℕ). digits 8 8 (scrubbed gridCode x)) e ∙ ap (λ x. digits 8 8 (repaired gridCode w x)) p,
   )
 
@@ -55,13 +57,13 @@ module _ (rows : List ℕ) (r : Answer) (h : Decoded rows r) where
 flipped : (d p : ℕ) → d < 2 ^ 16 → p < 2 ^ 64 → joined 8 (digits 8 8 (bitXor (codeword d) p)) ≡ bitXor (codeword d) p
 flipped d p l h = joined-digits 8 8 (bitXor (codeword d) p) (xor-lt 64 (codeword d) p (codeword-lt d l) h)
 
-undone : (d p : ℕ) (r : Answer) → d < 2 ^ 16 → p < 2 ^ 64 → ones p ≤ 7 → Decoded (digits 8 8 (bitXor (codeword d) p)) r
-    → (means (r .verdict) ≡ answered d (ones p)) × (r .grid .rows ≡ digits 8 8 (codeword d))
+undone : (d p : ℕ) (r : Answer) → d < 2 ^ 16 → p < 2 ^ 64 → ones p ≤ gridCode .radius → Decoded (digits 8 8 (bitXor (codeword d) p)) r
+    → (means (r .verdict) ≡ gives (answered d (ones p))) × (r .grid .rows ≡ digits 8 8 (codeword d))
 undone d p r l k few h =
     let (v, g) =
     of-word (digits 8 8 (bitXor (codeword d) p)) r h (bitXor (codeword d) p) (answered d (ones p)) (flipped d p l k)
     (promised .verdicts .undone d p l few) in
-    (v, g ∙ ap (digits 8 8) (answered-repaired gridCode (bitXor (codeword d) p) d (ones p)))
+    (v ∙ answered-given LostGrid d (ones p), g ∙ ap (digits 8 8) (answered-repaired gridCode (bitXor (codeword d) p) d (ones p)))
 
 -- ---- no second outcome
 
@@ -71,15 +73,15 @@ told (clean d) = Clean d
 told (mended d n) = Mended d n
 told lost = Lost
 
-told-means : (v : enum.Verdict) → told (means v) ≡ v
+told-verdict : (v : enum.Verdict) → told (verdictOf v) ≡ v
 unfolding told
-told-means (Clean d) = refl
-told-means (Mended d n) = refl
-told-means Lost = refl
+told-verdict (Clean d) = refl
+told-verdict (Mended d n) = refl
+told-verdict Lost = refl
 
 same-answer : (rows : List ℕ) (a b : Answer) → Decoded rows a → Decoded rows b → a ≡ b
 same-answer rows a b p q = λ i. record {
-  verdict = (sym (told-means (a .verdict)) ∙ ap told (p .answer ∙ sym (q .answer)) ∙ told-means (b .verdict)) i;
+  verdict = (sym (told-verdict (a .verdict)) ∙ ap told (p .answer ∙ sym (q .answer)) ∙ told-verdict (b .verdict)) i;
   grid = record { rows = (p .repaired ∙ sym (q .repaired)) i };
 }
 
@@ -89,7 +91,7 @@ decode-promised = record {
   only = λ rows r v h p. promised .verdicts .settled (joined 8 rows) .one v p ∙ sym (h .answer);
   demand3 = λ rows r h. subst (Demand3 gridCode (joined 8 rows)) (sym (h .answer)) (promised .verdicts .demand3 (joined 8 rows));
   no-tie = λ rows. promised .verdicts .no-tie (joined 8 rows);
-  numbers = λ rows r h. one-refusal 1 (means (r .verdict));
+  numbers = λ rows r h. ⊎-elim inl (λ e. inr (ap (replied LostGrid) e)) (given-or-lost LostGrid (verdictOf (r .verdict)));
   changed = λ rows r n small h. changed rows r h n small;
   as-read = λ rows r n small h refused. as-read rows r h n small refused;
   encoded = λ d rows r l e h.
@@ -99,7 +101,7 @@ decode-promised = record {
   eight = λ d p r l k e h.
       let (v, g) =
       of-word (digits 8 8 (bitXor (codeword d) p)) r h (bitXor (codeword d) p) lost (flipped d p l k) (promised .eight-are-lost d p l e) in
-      (v, ap (refusal 1) v, g);
+      (v, g);
 }
 
 pub clean-promised : CleanPromises

@@ -1,16 +1,17 @@
 -- What the answer of a decoder says, in document 01's terms. Assumes nothing.
-use Prim.Native.Nat.{ℕ}
+use Rattle.refusals.specs.declared.Refusal.the-variants.{LostGrid}
+use Rattle.refusals.specs.Reply.{Reply}
 use Rattle.codes.specs.Verdict as codes
-use Rattle.codes.specs.Verdict.{clean, mended, lost, refusal}
+use Rattle.codes.specs.Verdict.{clean, mended, lost, replied}
 use Rattle.grid.specs.declared.Verdict.{Verdict}
 use Rattle.grid.specs.declared.Verdict.the-variants.{Clean, Mended, Lost}
 
 -- Document 01's verdict, with its values, for each case of the enum, ..
-abbrev pub means : Verdict → codes.Verdict
-means (Clean d) = clean d
-means (Mended d n) = mended d n
-means Lost = lost
+abbrev pub verdictOf : Verdict → codes.Verdict
+verdictOf (Clean d) = clean d
+verdictOf (Mended d n) = mended d n
+verdictOf Lost = lost
 
--- .. and its number: 0 where data is handed out, 1 for lost.
-abbrev pub numberOf : Verdict → ℕ
-numberOf v = refusal 1 (means v)
+-- .. and what it says: the verdict, unless the grid is lost.
+abbrev pub means : Verdict → Reply codes.Verdict
+means v = replied LostGrid (verdictOf v)

@@ -9,7 +9,7 @@ use Rattle.codes.specs.Verdict.{verdict, scrubbed}
 use Rattle.codes.specs.Tally.{isClean}
 use Rattle.grid_code.specs.Equations.{Codeword}
 use Rattle.grid_code.specs.Code.{codeword, gridCode}
-use Rattle.grid.specs.Answer.{means}
+use Rattle.grid.specs.Answer.{verdictOf}
 use Rattle.grid.specs.declared.Answer.{Answer}
 
 -- `Grid::encode`: the rows of the grid of d, which meets the equations.
@@ -31,5 +31,5 @@ pub record Judged (rows : List ℕ) (r : Bool) : Type 0 where
 
 -- `Grid::decode` and `Grid::mend`: document 01's verdict on the grid, and beside it the codeword, or on refusal the grid as read.
 pub record Decoded (rows : List ℕ) (r : Answer) : Type 0 where
-  pub answer : means (r .verdict) ≡ verdict gridCode (joined 8 rows)
+  pub answer : verdictOf (r .verdict) ≡ verdict gridCode (joined 8 rows)
   pub repaired : r .grid .rows ≡ digits 8 8 (scrubbed gridCode (joined 8 rows))

@@ -4,46 +4,48 @@ use mathlib.Core.Path.{_≡_}
 use mathlib.Core.Logic.{_≢_, _⊎_}
 use mathlib.Core.Bool.{Bool, true}
 use mathlib.Core.List.{List}
-use Prim.Native.Nat.{ℕ, _^_, _≤_, _<_}
+use Prim.Native.Nat.{ℕ, _+_, _^_, _≤_, _<_}
 use lib.Bits.{bitXor}
 use lib.Count.{ones}
 use lib.ListN.{length}
 use Rattle.words.specs.Word.{dist}
 use Rattle.words.specs.Digits.{digits, joined, Below}
-use Rattle.codes.specs.Verdict.{Verdict, clean, lost, IsVerdict, Tie, answered, flipsOf}
+use Rattle.refusals.specs.Reply.{gives, refuses}
+use Rattle.codes.specs.Verdict.{Verdict, clean, IsVerdict, Tie, answered, flipsOf}
 use Rattle.codes.specs.Promises.{Demand3}
 use Rattle.grid_code.specs.Code.{codeword, gridCode}
-use Rattle.grid.specs.Answer.{means, numberOf}
+use Rattle.grid.specs.Answer.{verdictOf, means}
 use Rattle.grid.specs.Calls.{Encoded, Numbered, Parted, Judged, Decoded}
 use Rattle.grid.specs.declared.Answer.{Answer}
 
 -- What the answer of a decoder promises, whatever was read.
 pub record DecodePromises : Type 0 where
   -- The verdict is document 01's, and there is no other.
-  pub is-verdict : (rows : List ℕ) (r : Answer) → Decoded rows r → IsVerdict gridCode (joined 8 rows) (means (r .verdict))
-  pub only : (rows : List ℕ) (r : Answer) (v : Verdict) → Decoded rows r → IsVerdict gridCode (joined 8 rows) v → v ≡ means (r .verdict)
+  pub is-verdict : (rows : List ℕ) (r : Answer) → Decoded rows r → IsVerdict gridCode (joined 8 rows) (verdictOf (r .verdict))
+  pub only : (rows : List ℕ) (r : Answer) (v : Verdict) → Decoded rows r → IsVerdict gridCode (joined 8 rows) v → v ≡ verdictOf (r .verdict)
   -- Demand 3: data is handed out exactly where some codeword is within 7 places; it is that codeword's, every other is further off, and the
   -- flips are the places that differ.
-  pub demand3 : (rows : List ℕ) (r : Answer) → Decoded rows r → Demand3 gridCode (joined 8 rows) (means (r .verdict))
+  pub demand3 : (rows : List ℕ) (r : Answer) → Decoded rows r → Demand3 gridCode (joined 8 rows) (verdictOf (r .verdict))
   -- No grid has two nearest codewords within 7 places, so there is no tie among the answers: ..
   pub no-tie : (rows : List ℕ) → Tie gridCode (joined 8 rows) → ⊥
-  -- .. the number is 0, or 1 for lost.
-  pub numbers : (rows : List ℕ) (r : Answer) → Decoded rows r → (numberOf (r .verdict) ≡ 0) ⊎ (numberOf (r .verdict) ≡ 1)
+  -- .. the verdict is given, or the grid is lost and refused with 1.
+  pub numbers : (rows : List ℕ) (r : Answer) → Decoded rows r
+      → (means (r .verdict) ≡ gives (verdictOf (r .verdict))) ⊎ (means (r .verdict) ≡ refuses 1)
   -- The flips are the places in which the repaired grid differs from the grid as read, checks included.
   pub changed : (rows : List ℕ) (r : Answer) → length rows ≡ 8 → Below 8 rows → Decoded rows r
-      → flipsOf (means (r .verdict)) ≡ dist (joined 8 rows) (joined 8 (r .grid .rows))
+      → flipsOf (verdictOf (r .verdict)) ≡ dist (joined 8 rows) (joined 8 (r .grid .rows))
   -- On refusal the repaired grid is the grid as read.
   pub as-read : (rows : List ℕ) (r : Answer) → length rows ≡ 8 → Below 8 rows → Decoded rows r
-      → numberOf (r .verdict) ≢ 0 → r .grid .rows ≡ rows
+      → ((v : Verdict) → means (r .verdict) ≢ gives v) → r .grid .rows ≡ rows
   -- Decoding what was encoded gives the same data, verdict clean.
   pub encoded : (d : ℕ) (rows : List ℕ) (r : Answer) → d < 2 ^ 16 → Encoded d rows → Decoded rows r
-      → (means (r .verdict) ≡ clean d) × (r .grid .rows ≡ rows)
+      → (means (r .verdict) ≡ gives (clean d)) × (r .grid .rows ≡ rows)
   -- Up to seven flips of a written grid, checks included, are undone, with the right data and count.
-  pub undone : (d p : ℕ) (r : Answer) → d < 2 ^ 16 → p < 2 ^ 64 → ones p ≤ 7 → Decoded (digits 8 8 (bitXor (codeword d) p)) r
-      → (means (r .verdict) ≡ answered d (ones p)) × (r .grid .rows ≡ digits 8 8 (codeword d))
+  pub undone : (d p : ℕ) (r : Answer) → d < 2 ^ 16 → p < 2 ^ 64 → ones p ≤ gridCode .radius → Decoded (digits 8 8 (bitXor (codeword d) p)) r
+      → (means (r .verdict) ≡ gives (answered d (ones p))) × (r .grid .rows ≡ digits 8 8 (codeword d))
   -- Eight are always lost, and the grid stays as read.
-  pub eight : (d p : ℕ) (r : Answer) → d < 2 ^ 16 → p < 2 ^ 64 → ones p ≡ 8 → Decoded (digits 8 8 (bitXor (codeword d) p)) r
-      → (means (r .verdict) ≡ lost) × (numberOf (r .verdict) ≡ 1) × (r .grid .rows ≡ digits 8 8 (bitXor (codeword d) p))
+  pub eight : (d p : ℕ) (r : Answer) → d < 2 ^ 16 → p < 2 ^ 64 → ones p ≡ gridCode .radius + 1 → Decoded (digits 8 8 (bitXor (codeword d) p)) r
+      → (means (r .verdict) ≡ refuses 1) × (r .grid .rows ≡ digits 8 8 (bitXor (codeword d) p))
 
 -- What `Grid::is_clean` promises: of codewords, and of nothing else, it says that they are clean.
 pub record CleanPromises : Type 0 where

@@ -41,7 +41,7 @@ pub struct Answer {
 }
 
 impl Grid {
-    pub const RADIUS: u32 = 7;
+    pub const RADIUS: u32 = grid_code::RADIUS;
 
     pub const LENGTH: u32 = 64;
 

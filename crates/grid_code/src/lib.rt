@@ -7,6 +7,9 @@ ghost use Prim.Native.Nat.{ℕ, _/_, _%_, _^_, _<_};
 ghost use lib.Bits.{bitAnd};
 ghost use Rattle.grid_code.specs.Code.{codeword};
 
+// How far from the word read a codeword may be: the grid's radius.
+pub const RADIUS: u32 = 7;
+
 // The data places: data bit k goes to row k / 4, place k mod 4, of rows 0 to 3 as one number.
 pub fn data_places(value: u16) -> u32
     ensures { λ r. ⌜ r ≡ bitAnd (codeword value) 0x0F0F_0F0F ⌝ }

@@ -6,7 +6,7 @@ use lib.Bits.{bitAnd, differ}
 use Rattle.words.specs.Word.{dist, combined, sumTo}
 use Rattle.codes.specs.Product.{Candidate}
 use Rattle.grid_code.specs.Equations.{inColumn}
-use Rattle.grid_code.specs.Code.{codeword}
+use Rattle.grid_code.specs.Code.{codeword, gridCode}
 use Rattle.grid_code.specs.Sides.{colEntries, sides, rowOf}
 use Rattle.grid_rows.specs.Rows.{fixed, mendedRow}
 
@@ -48,7 +48,7 @@ pub record Tried (t word number flips : ℕ) : Type 0 where
   pub reached : Reached word number flips
   pub all : (d : ℕ) → d < 2 ^ 16 → Candidate sides fixed t (rowOf word) (rowOf (codeword d)) → number ≡ codeword d
 
--- .. and it is within 7 places of the word if any codeword is.
+-- .. and it is within the radius of the word if any codeword is.
 pub record Nearby (word number flips : ℕ) : Type 0 where
   pub reached : Reached word number flips
-  pub all : (d : ℕ) → d < 2 ^ 16 → dist word (codeword d) ≤ 7 → flips ≤ 7
+  pub all : (d : ℕ) → d < 2 ^ 16 → dist word (codeword d) ≤ gridCode .radius → flips ≤ gridCode .radius

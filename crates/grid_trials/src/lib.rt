@@ -7,9 +7,6 @@ ghost use Rattle.grid_trials.specs.Steps.{Mended, Tried, Nearby};
 
 mod columns;
 
-// How far from the word read a codeword may be.
-const RADIUS: u32 = 7;
-
 // A codeword, and in how many places the word read differs from it.
 pub struct Near {
     pub number: u64,
@@ -38,7 +35,7 @@ pub fn nearest(word: u64, rows: u64) -> Near
     ensures { λ r. ⌜ (Mended word rows → Nearby word (r .number) (r .flips)) ⌝ }
 {
     let first = trial(word, rows, 2);
-    if first.flips <= RADIUS {
+    if first.flips <= grid_code::RADIUS {
         return first;
     }
     trial(word, rows, 1)

@@ -1,48 +1,52 @@
 // The block's calls, with document 01's numbers for their answers.
 ghost use mathlib.Core.Path.{_≡_};
-ghost use Prim.Native.Nat.{_+_, _*_};
-ghost use Rattle.block.specs.Answer.{numberOf, flipsIn, encodeNumberOf};
+ghost use Rattle.refusals.specs.Reply.{numberIn};
+ghost use Rattle.block_code.specs.Code.{blockCode};
+ghost use Rattle.block.specs.Answer.{means, encodeMeans};
 ghost use Rattle.block.specs.Calls.{Encoded, Scrubbed};
-ghost use Rattle.block.specs.declared.Outcome.{Outcome};
-ghost use Rattle.block.specs.declared.Written.{Written};
+ghost use Rattle.block.specs.declared.BlockAnswer.{BlockAnswer};
+ghost use Rattle.block.specs.declared.EncodeAnswer.{EncodeAnswer};
+ghost use Rattle.harness.specs.Exports.{flipsOrNumber};
 use block::Block;
-use block::Outcome;
-use block::Written;
+use block::BlockAnswer;
+use block::BlockVerdict;
+use block::EncodeAnswer;
 
 // The block of 32 data words, into 38 words. Document 01's number is returned.
 #[no_mangle]
 pub extern "C" fn block_encode(values: &[u16], words: &mut [u16]) -> u32
-    ensures { λ r. ⌜ ((a : Written) × Encoded (now (values .entry)) (now (words .entry)) a (now (words .exit)) × (r ≡ encodeNumberOf a)) ⌝ }
+    ensures { λ r. ⌜ ((a : EncodeAnswer) × Encoded (now (values .entry)) (now (words .entry)) a (now (words .exit)) × (r ≡ numberIn (encodeMeans a (now (words .exit))))) ⌝ }
 {
     match Block::encode(values, words) {
-        Written::Done => 0,
-        Written::Length => 3,
+        EncodeAnswer::Done => 0,
+        EncodeAnswer::Refused(why) => why.number(),
     }
 }
 
-// A block scrubbed. The flips are returned, with document 01's number from bit 8 on.
+// A block scrubbed. The flips are returned, or document 01's number from bit 8 on.
 #[no_mangle]
 pub extern "C" fn block_scrub(words: &mut [u16]) -> u32
-    ensures { λ r. ⌜ ((a : Outcome) × Scrubbed (now (words .entry)) a (now (words .exit)) × (r ≡ flipsIn a + numberOf a * 256)) ⌝ }
+    ensures { λ r. ⌜ ((a : BlockAnswer) × Scrubbed (now (words .entry)) a (now (words .exit)) × (r ≡ flipsOrNumber (means a (now (words .exit))))) ⌝ }
 {
     match Block::scrub(words) {
-        Outcome::Clean => 0,
-        Outcome::Mended { flips } => flips,
-        Outcome::Lost => 0x200,
-        Outcome::Length => 0x300,
+        BlockAnswer::Done(verdict) => match verdict {
+            BlockVerdict::Clean => 0,
+            BlockVerdict::Mended { flips } => flips,
+        },
+        BlockAnswer::Refused(why) => why.number() * 256,
     }
 }
 
 #[no_mangle]
 pub extern "C" fn block_radius() -> u32
-    ensures { λ r. ⌜ r ≡ 2 ⌝ }
+    ensures { λ r. ⌜ r ≡ blockCode .radius ⌝ }
 {
     Block::RADIUS
 }
 
 #[no_mangle]
 pub extern "C" fn block_length() -> u32
-    ensures { λ r. ⌜ r ≡ 608 ⌝ }
+    ensures { λ r. ⌜ r ≡ blockCode .places ⌝ }
 {
     Block::LENGTH
 }

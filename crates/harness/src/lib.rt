@@ -3,10 +3,12 @@ ghost use mathlib.Core.Path.{_≡_};
 ghost use lib.ListN.{getD};
 ghost use Rattle.words.specs.Digits.{digits};
 ghost use Rattle.grid_code.specs.Equations.{Codeword};
-ghost use Rattle.grid.specs.Answer.{means};
+ghost use Rattle.grid_code.specs.Code.{gridCode};
+ghost use Rattle.grid.specs.Answer.{verdictOf};
 ghost use Rattle.harness.specs.Exports.{packed, Decoding};
 use grid::Grid;
 use grid::Verdict;
+use refusals::Refusal;
 
 mod blocks;
 
@@ -37,14 +39,14 @@ pub extern "C" fn grid_row(w: u64, r: u64) -> u8
 
 #[no_mangle]
 pub extern "C" fn grid_radius() -> u32
-    ensures { λ r. ⌜ r ≡ 7 ⌝ }
+    ensures { λ r. ⌜ r ≡ gridCode .radius ⌝ }
 {
     Grid::RADIUS
 }
 
 #[no_mangle]
 pub extern "C" fn grid_length() -> u32
-    ensures { λ r. ⌜ r ≡ 64 ⌝ }
+    ensures { λ r. ⌜ r ≡ gridCode .places ⌝ }
 {
     Grid::LENGTH
 }
@@ -58,12 +60,12 @@ pub extern "C" fn grid_distance() -> u32
 
 // An answer as one number: the data, the flips from bit 16 on, document 01's number from bit 24 on.
 fn packed(verdict: Verdict) -> u64
-    ensures { λ r. ⌜ r ≡ packed (means verdict) ⌝ }
+    ensures { λ r. ⌜ r ≡ packed (verdictOf verdict) ⌝ }
 {
     match verdict {
         Verdict::Clean(data) => data as u64,
         Verdict::Mended { data, flips } => (data as u64) + (flips as u64) * 65536,
-        Verdict::Lost => 0x0100_0000,
+        Verdict::Lost => (Refusal::LostGrid.number() as u64) * 0x0100_0000,
     }
 }
 

@@ -1,7 +1,7 @@
 // The scrub of a page on plain numbers, for the tests and for counting instructions. No part of the product. A crate of its own, so that
 // its archive has no other use of the decoder.
 ghost use Rattle.harness_page.specs.Exports.{Exported};
-use page::Outcome;
+use page::PageAnswer;
 
 // A page scrubbed, with the five numbers in `tally`, which has five places; document 01's number is returned, and 255 where `tally` has
 // another length: then nothing is done.
@@ -13,7 +13,7 @@ pub extern "C" fn page_scrub(page: &mut [u64], tally: &mut [u32]) -> u32
         return 255;
     }
     match page::scrub(page) {
-        Outcome::Done(t) => {
+        PageAnswer::Done(t) => {
             tally[0] = t.grids;
             tally[1] = t.clean;
             tally[2] = t.mended;
@@ -21,6 +21,6 @@ pub extern "C" fn page_scrub(page: &mut [u64], tally: &mut [u32]) -> u32
             tally[4] = t.flips;
             0
         }
-        Outcome::Length => 3,
+        PageAnswer::Refused(why) => why.number(),
     }
 }

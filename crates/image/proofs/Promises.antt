@@ -3,26 +3,23 @@
 use mathlib.Core.Path.{_≡_, refl, sym, ap, _∙_, subst}
 use mathlib.Core.Logic.{_≢_, _⊎_, inl, inr}
 use mathlib.Core.List.{List, [], _∷_, _++_, append-assoc, append-nil}
-use Prim.Native.Nat.{ℕ, _+_, _-_, _≤_, _<_}
+use Prim.Native.Nat.{ℕ, _+_, _-_}
 use native.Mathlib.Omega.{arith}
 use lib.ListN.{length, take, drop, length-append}
 use lib.Seq.{drop-append-seam}
-use borrow.Author.Tests.{le-leb, lt-leb}
 use Rattle.words.specs.Digits.{Below}
 use Rattle.words.proofs.Bytes.{below-drop}
 use Rattle.fields.specs.declared.Field.{Field}
 use Rattle.fields.specs.declared.Field.the-variants.{Title, Grids, Block, End, Fails}
-use Rattle.fields.specs.Fields.{value, behind, fieldOf}
+use Rattle.fields.specs.Fields.{fieldOf}
 use Rattle.fields.proofs.Fields.{past-end, known, found-end}
-use Rattle.image.specs.declared.Outcome.{Outcome}
-use Rattle.image.specs.declared.Outcome.the-variants.{Length, Broken}
+use Rattle.image.specs.declared.CheckAnswer.the-variants.{Refused}
 use Rattle.image.specs.Card.{Part, Card, Found, sound, broken, before, walk, underTitle, titled, cardOf, head, frontOf, imageOf}
-use Rattle.image.specs.Answer.{numberOf, placeOf}
-use Rattle.image.specs.Calls.{byFound, Checked, counts, titleIn}
+use Rattle.image.specs.Answer.{means}
 use Rattle.image.specs.Promises.{Proper, Break, no-title, fails, repeated, seventeenth, behind-end, ImagePromises, OneOutcome}
-use Rattle.image.proofs.Judged.{judged-long, judged-as}
 use Rattle.image.proofs.Walking.{full-grids, full-block, walk-end, walk-behind, walk-title, walk-fails}
 use Rattle.image.proofs.Shape.{stands-front, beforeAll, card-over, split, DataAt, Fronted, title-back}
+use Rattle.image.proofs.Checking.{checked-long, checked-found, gridsAndBlocks, title-given}
 
 -- ---- what stands behind the front of a card decides
 
@@ -168,28 +165,6 @@ no-end c h = ap cardOf (sym (append-nil (frontOf c))) ∙ breaks c h [] (walk-fa
 
 -- ---- the calls
 
-module _ (s : List ℕ) (r : Outcome) (k : Checked s r) where
-  short : length s ≤ 32768 → {x : Found Card} → cardOf s ≡ x → r ≡ byFound Broken (λ c. counts (c .parts)) x
-  short l e = k .answer ∙ judged-as s Length Broken (λ c. counts (c .parts)) (le-leb (length s) 32768 l) e
-
-  long : 32768 < length s → r ≡ Length
-  long l = k .answer ∙ judged-long s Length Broken (λ c. counts (c .parts)) (lt-leb (length s) 32768 l)
-
-title-given : (s : List ℕ) (c : Card) → cardOf s ≡ sound c → titleIn s (fieldOf s) ≡ c .title
-unfolding cardOf
-title-given s c = go (fieldOf s)
-  where
-    by-title : (x : Found (List Part)) → underTitle (value s) x ≡ sound c → value s ≡ c .title
-    by-title (sound ps) e = cc
-    by-title (broken place) e = cc
-
-    go : (f : Field) → titled s f ≡ sound c → titleIn s f ≡ c .title
-    go (Title n) e = by-title (walk 16 (3 + n) (behind s)) e
-    go (Grids n) e = cc
-    go Block e = cc
-    go End e = cc
-    go Fails e = cc
-
 pub promised : ImagePromises
 promised = record {
   there-and-back = whole;
@@ -198,10 +173,10 @@ promised = record {
   break-found = λ s place. found;
   no-end = no-end;
   empty = found (no-title (λ n q. let z : _≡_ {A = ℕ} 0 1 = cc nothing in omega arith));
-  long = λ s r l k. ap numberOf (long s r k l);
-  sound-checked = λ s c r l e k. short s r k l e;
-  broken-checked = λ s place r l e k. (ap numberOf (short s r k l e), ap placeOf (short s r k l e));
-  title-given = λ s r c e k. k .answer ∙ title-given s c e;
+  long = λ s r l k. ap means (k .answer ∙ checked-long s Refused gridsAndBlocks l);
+  sound-checked = λ s c r l e k. ap means (k .answer ∙ checked-found s Refused gridsAndBlocks l e);
+  broken-checked = λ s place r l e k. ap means (k .answer ∙ checked-found s Refused gridsAndBlocks l e);
+  title-given = title-given;
 }
 
 pub one-outcome : OneOutcome

@@ -16,7 +16,7 @@ use Rattle.words.proofs.Digits.{length-digits, digits-below, joined-digits, dig
 use Rattle.words.proofs.Bytes.{length-words, length-bytes, below-take, below-drop, bytes-words, words-bytes, words-below}
 use Rattle.fields.specs.declared.Field.{Field}
 use Rattle.fields.specs.declared.Field.the-variants.{Title, Grids, Block, End, Fails}
-use Rattle.fields.specs.Fields.{size, value, isTitle, isGrids, fieldOf}
+use Rattle.fields.specs.Fields.{gridsMost, size, value, isTitle, isGrids, fieldOf}
 use Rattle.fields.proofs.Fields.{Stands, known, length-value, grids-size, found-title, found-grids, found-block}
 use Rattle.image.specs.Card.{Part, grids, block, Card, Found, gridsAt, blockAt, before, walk, underTitle, cardOf, head, partBytes, partsBytes, frontOf}
 use Rattle.image.specs.Promises.{ProperPart, AllProper, Proper}
@@ -36,7 +36,7 @@ module _ (t n : ℕ) (v rest : List ℕ) (e : length v ≡ n) where
 
 -- one data field
 module _ (left at : ℕ) (rest : List ℕ) where
-  grids-step : (ws : List ℕ) → length ws ≤ 512 → Below 64 ws
+  grids-step : (ws : List ℕ) → 8 * length ws ≤ gridsMost → Below 64 ws
       → walk (suc left) at (partBytes (grids ws) ++ rest) ≡ before (grids ws) (walk left (at + length (partBytes (grids ws))) rest)
   unfolding partBytes
   grids-step ws few below =
@@ -45,7 +45,7 @@ module _ (left at : ℕ) (rest : List ℕ) where
       let s : List ℕ = head 2 n ++ v ++ rest in
       let l : length v ≡ n = length-bytes 8 ws in
       let eight : n % 8 ≡ 0 = omega arith in
-      let test : isGrids n ≡ true = ap (λ (b : Bool). b && eqb (n % 8) 0) (le-leb n 4096 (omega arith)) ∙ eq-eqb (n % 8) 0 eight in
+      let test : isGrids n ≡ true = ap (λ (b : Bool). b && eqb (n % 8) 0) (le-leb n gridsMost few) ∙ eq-eqb (n % 8) 0 eight in
       let count : n / 8 ≡ length ws = omega arith in
       let next : at + (3 + n) ≡ at + length (head 2 n ++ v) = omega arith in
       walk-grids at s left n (found-grids s n (stands-front 2 n v rest l) test)

@@ -12,12 +12,13 @@ use borrow.Author.Tests.{eq-eqb, ne-eqb}
 use Rattle.words.specs.Word.{choose}
 use Rattle.words.specs.Bytes.{wordsIn}
 use Rattle.words.proofs.Bytes.{length-words}
+use Rattle.refusals.specs.declared.Refusal.the-variants.{Broken}
 use Rattle.fields.specs.declared.Field.{Field}
 use Rattle.fields.specs.declared.Field.the-variants.{Title, Grids, Block, End, Fails}
 use Rattle.fields.specs.Fields.{value, fieldOf}
 use Rattle.fields.proofs.Field.{the-type}
 use Rattle.fields.proofs.Fields.{known}
-use Rattle.image.specs.declared.Outcome.the-variants.{Sound, Broken}
+use Rattle.image.specs.declared.CheckAnswer.the-variants.{Done, Refused}
 use Rattle.image.specs.Card.{Part, grids, block, Card, Found, sound, broken, gridsIn, blocksIn, gridsAt, blockAt, before, follow, walk, underTitle, titled, cardOf}
 use Rattle.image.specs.Calls.{byFound, counts, titleIn}
 use Rattle.image.specs.Steps.{foundAfter}
@@ -27,12 +28,12 @@ use Rattle.image.specs.Steps.{foundAfter}
 after-grids : (g b : ℕ) (ws : List ℕ) (x : Found (List Part)) → foundAfter g b (before (grids ws) x) ≡ foundAfter (g + length ws) b x
 after-grids g b ws (sound ps) =
     let e : g + length (ws ++ gridsIn ps) ≡ g + length ws + length (gridsIn ps) = omega (arith, length-append ws (gridsIn ps)) in
-    ap (λ (n : ℕ). Sound n (b + length (blocksIn ps))) e
+    ap (λ (n : ℕ). Done n (b + length (blocksIn ps))) e
 after-grids g b ws (broken at) = refl
 
 after-block : (g b w : ℕ) (x : Found (List Part)) → foundAfter g b (before (block w) x) ≡ foundAfter g (b + 1) x
 after-block g b w (sound ps) =
-    let e : b + length (w ∷ blocksIn ps) ≡ b + 1 + length (blocksIn ps) = omega arith in ap (Sound (g + length (gridsIn ps))) e
+    let e : b + length (w ∷ blocksIn ps) ≡ b + 1 + length (blocksIn ps) = omega arith in ap (Done (g + length (gridsIn ps))) e
 after-block g b w (broken at) = refl
 
 -- ---- one step
@@ -114,6 +115,6 @@ unfolding cardOf
 card-none s f e k = sym (ap (titled s) e) ∙ untitled s f k .0
 
 pub after-whole : (title : List ℕ) (x : Found (List Part))
-    → byFound Broken (λ (c : Card). counts (c .parts)) (underTitle title x) ≡ foundAfter 0 0 x
-after-whole title (sound ps) = sym (ap₂ Sound (zero-add (length (gridsIn ps))) (zero-add (length (blocksIn ps))))
+    → byFound (λ at. Refused (Broken at)) (λ (c : Card). counts (c .parts)) (underTitle title x) ≡ foundAfter 0 0 x
+after-whole title (sound ps) = sym (ap₂ Done (zero-add (length (gridsIn ps))) (zero-add (length (blocksIn ps))))
 after-whole title (broken at) = refl

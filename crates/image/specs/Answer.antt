@@ -1,15 +1,14 @@
 -- What the answer of a check says, in document 01's terms. Assumes nothing.
 use Prim.Native.Nat.{ℕ}
-use Rattle.image.specs.declared.Outcome.{Outcome}
-use Rattle.image.specs.declared.Outcome.the-variants.{Sound, Length, Broken}
+use Rattle.refusals.specs.Reply.{Reply, gives, refusal}
+use Rattle.image.specs.declared.CheckAnswer.{CheckAnswer}
+use Rattle.image.specs.declared.CheckAnswer.the-variants.{Done, Refused}
 
--- Document 01's number for each answer, and the place of the break.
-abbrev pub numberOf : Outcome → ℕ
-numberOf (Sound g b) = 0
-numberOf Length = 3
-numberOf (Broken at) = 4
+-- the numbers of grids and of blocks
+pub record Counts : Type 0 where
+  pub grids : ℕ
+  pub blocks : ℕ
 
-abbrev pub placeOf : Outcome → ℕ
-placeOf (Sound g b) = 0
-placeOf Length = 0
-placeOf (Broken at) = at
+abbrev pub means : CheckAnswer → Reply Counts
+means (Done g b) = gives (record { grids = g; blocks = b })
+means (Refused why) = refusal why

@@ -8,7 +8,14 @@ use Rattle.words.specs.Digits.{digits, joined}
 use Rattle.words.specs.Bytes.{wordsIn, bytesOf}
 use Rattle.fields.specs.declared.Field.{Field}
 use Rattle.fields.specs.declared.Field.the-variants.{Title, Grids, Block, End, Fails}
-use Rattle.fields.specs.Fields.{value, behind, fieldOf}
+use Rattle.fields.specs.Fields.{headBytes, blockBytes, value, behind, fieldOf}
+
+-- the longest image, and the most data fields
+abbrev pub mostBytes : ℕ
+mostBytes = 32768
+
+abbrev pub dataFields : ℕ
+dataFields = 16
 
 -- a data field: the grids as 64-bit numbers, or a block as one of 608 bits
 pub data Part : Type 0 where
@@ -51,9 +58,9 @@ before p (broken at) = broken at
 -- What stands from the offset `at` on; `go` is what is found behind a data field. The end is the last field, and bytes behind it give the
 -- offset of the first of them. A second title breaks the image, as does any field at which a rule fails.
 abbrev pub follow : (ℕ → List ℕ → Found (List Part)) → ℕ → List ℕ → Field → Found (List Part)
-follow go at rest (Grids n) = before (gridsAt n (value rest)) (go (at + (3 + n)) (behind rest))
-follow go at rest Block = before (blockAt (value rest)) (go (at + 79) (behind rest))
-follow go at rest End = choose (eqb (length rest) 3) (sound []) (broken (at + 3))
+follow go at rest (Grids n) = before (gridsAt n (value rest)) (go (at + (headBytes + n)) (behind rest))
+follow go at rest Block = before (blockAt (value rest)) (go (at + (headBytes + blockBytes)) (behind rest))
+follow go at rest End = choose (eqb (length rest) headBytes) (sound []) (broken (at + headBytes))
 follow go at rest (Title n) = broken at
 follow go at rest Fails = broken at
 
@@ -69,7 +76,7 @@ underTitle title (broken at) = broken at
 
 -- The title comes first; then at most 16 data fields.
 abbrev pub titled : List ℕ → Field → Found Card
-titled image (Title n) = underTitle (value image) (walk 16 (3 + n) (behind image))
+titled image (Title n) = underTitle (value image) (walk dataFields (headBytes + n) (behind image))
 titled image (Grids n) = broken 0
 titled image Block = broken 0
 titled image End = broken 0
@@ -86,7 +93,7 @@ head t n = t ∷ n / 256 ∷ n % 256 ∷ []
 
 unfoldable pub partBytes : Part → List ℕ
 partBytes (grids ws) = head 2 (8 * length ws) ++ bytesOf 8 ws
-partBytes (block w) = head 3 76 ++ bytesOf 2 (digits 16 38 w)
+partBytes (block w) = head 3 blockBytes ++ bytesOf 2 (digits 16 38 w)
 
 unfoldable pub partsBytes : List Part → List ℕ
 partsBytes [] = []

@@ -12,63 +12,64 @@ ghost use Rattle.image.specs.Steps.{foundAfter, Inside};
 use fields::BLOCK;
 use fields::Field;
 use fields::HEAD;
+use refusals::Refusal;
 
-// The answer of a check: sound, with the numbers of grids and of blocks; over the length that is allowed; or broken at an offset.
-pub enum Outcome {
-    Sound { grids: usize, blocks: usize },
-    Length,
-    Broken(usize),
+// The answer of a check: the numbers of grids and of blocks, or a refusal.
+pub enum CheckAnswer {
+    Done { grids: usize, blocks: usize },
+    Refused(Refusal),
 }
 
 // The longest image, and the most data fields.
-pub const MOST: usize = 32768;
+pub const MOST_BYTES: usize = 32768;
 
 pub const DATA_FIELDS: usize = 16;
 
 // The fields from the offset `at` on, of which `left` may be data fields, counted behind the grids and blocks that were passed.
-fn walk(rest: &[u8], at: usize, left: usize, grids: usize, blocks: usize) -> Outcome
+fn walk(rest: &[u8], at: usize, left: usize, grids: usize, blocks: usize) -> CheckAnswer
     requires { ⌜ Inside (now rest) at × Inside (now rest) grids × Inside (now rest) blocks ⌝ }
     ensures { λ r. ⌜ r ≡ foundAfter grids blocks (walk left at (now (rest .entry))) ⌝ }
 {
     match fields::front(rest) {
         Field::Grids(n) => {
             if left == 0 {
-                return Outcome::Broken(at);
+                return CheckAnswer::Refused(Refusal::Broken(at));
             }
             let end = HEAD + n;
             walk(&rest[end..], at + end, left - 1, grids + n / 8, blocks)
         }
         Field::Block => {
             if left == 0 {
-                return Outcome::Broken(at);
+                return CheckAnswer::Refused(Refusal::Broken(at));
             }
             let end = HEAD + BLOCK;
             walk(&rest[end..], at + end, left - 1, grids, blocks + 1)
         }
         Field::End => {
             if rest.len() == HEAD {
-                return Outcome::Sound { grids, blocks };
+                return CheckAnswer::Done { grids, blocks };
             }
-            Outcome::Broken(at + HEAD)
+            let behind = at + HEAD;
+            CheckAnswer::Refused(Refusal::Broken(behind))
         }
-        Field::Title(_) => Outcome::Broken(at),
-        Field::Fails => Outcome::Broken(at),
+        Field::Title(_) => CheckAnswer::Refused(Refusal::Broken(at)),
+        Field::Fails => CheckAnswer::Refused(Refusal::Broken(at)),
     }
 }
 
 // Checks a whole image.
-pub fn check(image: &[u8]) -> Outcome
+pub fn check(image: &[u8]) -> CheckAnswer
     ensures { λ r. ⌜ Checked (now (image .entry)) r ⌝ }
 {
-    if image.len() > MOST {
-        return Outcome::Length;
+    if image.len() > MOST_BYTES {
+        return CheckAnswer::Refused(Refusal::Length);
     }
     match fields::front(image) {
         Field::Title(n) => {
             let end = HEAD + n;
             walk(&image[end..], end, DATA_FIELDS, 0, 0)
         }
-        _ => Outcome::Broken(0),
+        _ => CheckAnswer::Refused(Refusal::Broken(0)),
     }
 }
 

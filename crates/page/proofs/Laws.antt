@@ -17,7 +17,7 @@ use Rattle.grid_code.specs.Code.{gridCode}
 use Rattle.grid_code.proofs.Promises as grid
 use Rattle.grid.specs.Calls.{Judged}
 use Rattle.grid.proofs.Verdicts.{judged-clean}
-use Rattle.page.specs.Calls.{tallyOf}
+use Rattle.page.specs.Calls.{gridTally}
 use Rattle.page.specs.Steps.{counted, Roomy}
 use Rattle.page.specs.declared.Tally.{Tally}
 
@@ -36,26 +36,26 @@ decoded-clean w rows l e j =
         ap (counted t) (sym v),
         λ r.
             let s : Roomy t (clean d) = subst (Roomy t) v r in
-            record { grids = s .grids; clean = s .clean; mended = s .mended; lost = s .lost; flips = s .flips },
+            record { words = s .words; clean = s .clean; mended = s .mended; lost = s .lost; flips = s .flips },
       ),
     )
 
 -- ---- a turn
 
 module _ (page now : List ℕ) (i : ℕ) (t : Tally) (inside : i < length page) (few : length page ≤ 512)
-    (so-far : now ≡ partly (scrubbed gridCode) i page) (counts : t ≡ tallyOf (take i page)) where
+    (so-far : now ≡ partly (scrubbed gridCode) i page) (counts : t ≡ gridTally (take i page)) where
   read : getD now i 0 ≡ getD page i 0
   read = ap (λ (l : List ℕ). getD l i 0) so-far ∙ partly-at (scrubbed gridCode) page i inside
 
   pub turn-page : (w : ℕ) → w ≡ scrubbed gridCode (getD now i 0) → set now i w ≡ partly (scrubbed gridCode) (i + 1) page
   turn-page w e = rw (e, read, so-far) (partly-step (scrubbed gridCode) page i inside)
 
-  judged : verdict gridCode (getD now i 0) ≡ verdict gridCode (getD page i 0)
-  judged = ap (verdict gridCode) read
+  same-verdict : verdict gridCode (getD now i 0) ≡ verdict gridCode (getD page i 0)
+  same-verdict = ap (verdict gridCode) read
 
-  pub turn-tally : counted t (verdict gridCode (getD now i 0)) ≡ tallyOf (take (i + 1) page)
+  pub turn-tally : counted t (verdict gridCode (getD now i 0)) ≡ gridTally (take (i + 1) page)
   turn-tally =
-      rw (counts, judged)
+      rw (counts, same-verdict)
       (simp (
         sum-step gridCode isClean page i inside,
         sum-step gridCode isMended page i inside,
@@ -67,11 +67,11 @@ module _ (page now : List ℕ) (i : ℕ) (t : Tally) (inside : i < length page) 
 
   pub turn-roomy : Roomy t (verdict gridCode (getD now i 0))
   turn-roomy =
-      rw (counts, judged)
+      rw (counts, same-verdict)
       (let u : Verdict = verdict gridCode (getD page i 0) in
       let n : length (take i page) ≡ i = length-take-le i page (omega arith) in
       record {
-        grids = omega arith;
+        words = omega arith;
         clean = omega (arith, one-kind u, sum-bound gridCode isClean 1 (λ w. omega (arith, one-kind (verdict gridCode w))) (take i page));
         mended = omega (arith, one-kind u, sum-bound gridCode isMended 1 (λ w. omega (arith, one-kind (verdict gridCode w))) (take i page));
         lost = omega (arith, one-kind u, sum-bound gridCode isLost 1 (λ w. omega (arith, one-kind (verdict gridCode w))) (take i page));

@@ -1,9 +1,14 @@
 -- What the answer of a scrub says, in document 01's terms. Assumes nothing.
-use Prim.Native.Nat.{ℕ}
-use Rattle.page.specs.declared.Outcome.{Outcome}
-use Rattle.page.specs.declared.Outcome.the-variants.{Done, Length}
+use Rattle.refusals.specs.Reply.{Reply, gives, refusal}
+use Rattle.codes.specs.Tally as codes
+use Rattle.page.specs.declared.Tally.{Tally}
+use Rattle.page.specs.declared.PageAnswer.{PageAnswer}
+use Rattle.page.specs.declared.PageAnswer.the-variants.{Done, Refused}
 
--- Document 01's number for each answer: 0 where the scrub was done, 3 for a length that is not allowed.
-abbrev pub numberOf : Outcome → ℕ
-numberOf (Done tally) = 0
-numberOf Length = 3
+-- the five numbers
+abbrev pub tallyIn : Tally → codes.Tally
+tallyIn t = record { words = t .grids; clean = t .clean; mended = t .mended; lost = t .lost; flips = t .flips }
+
+abbrev pub means : PageAnswer → Reply codes.Tally
+means (Done t) = gives (tallyIn t)
+means (Refused why) = refusal why

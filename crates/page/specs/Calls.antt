@@ -1,29 +1,35 @@
--- What the call promises: one record, which determines the answer and every grid afterwards. Assumes nothing.
+-- What each call of the crate promises: one record a call, which determines the answer and every grid afterwards. Assumes nothing.
 use mathlib.Core.Path.{_≡_}
 use mathlib.Core.List.{List, map}
 use Prim.Native.Nat.{ℕ}
 use lib.Dec.{leb}
 use lib.ListN.{length}
 use Rattle.words.specs.Word.{choose}
-use Rattle.codes.specs.Verdict.{flipsOf, scrubbed}
-use Rattle.codes.specs.Tally.{isClean, isMended, isLost, sumBy}
+use Rattle.refusals.specs.declared.Refusal.the-variants.{Length}
+use Rattle.codes.specs.Verdict.{scrubbed}
+use Rattle.codes.specs.Tally as codes
 use Rattle.grid_code.specs.Code.{gridCode}
 use Rattle.page.specs.declared.Tally.{Tally}
-use Rattle.page.specs.declared.Outcome.{Outcome}
-use Rattle.page.specs.declared.Outcome.the-variants.{Done, Length}
+use Rattle.page.specs.declared.PageAnswer.{PageAnswer}
+use Rattle.page.specs.declared.PageAnswer.the-variants.{Done, Refused}
 
--- Grids, clean, mended, lost and flips.
-abbrev pub tallyOf : List ℕ → Tally
-tallyOf page = record {
-  grids = length page;
-  clean = sumBy gridCode isClean page;
-  mended = sumBy gridCode isMended page;
-  lost = sumBy gridCode isLost page;
-  flips = sumBy gridCode flipsOf page;
-}
+-- the most grids of a page
+abbrev pub mostGrids : ℕ
+mostGrids = 512
+
+-- the five numbers, of grids
+abbrev pub ofGrids : codes.Tally → Tally
+ofGrids t = record { grids = t .words; clean = t .clean; mended = t .mended; lost = t .lost; flips = t .flips }
+
+abbrev pub gridTally : List ℕ → Tally
+gridTally page = ofGrids (codes.tallyOf gridCode page)
+
+-- `Tally::none`: that of no grids.
+pub record NoGrids (r : Tally) : Type 0 where
+  pub answer : r ≡ record { grids = 0; clean = 0; mended = 0; lost = 0; flips = 0 }
 
 -- `page::scrub`: 0 to 512 grids are accepted. Each mended grid is replaced by its codeword, and clean and lost ones stay as they are. A
 -- longer page is refused, and nothing is written.
-pub record Scrubbed (before : List ℕ) (r : Outcome) (exit : List ℕ) : Type 0 where
-  pub answer : r ≡ choose (leb (length before) 512) (Done (tallyOf before)) Length
-  pub after : exit ≡ choose (leb (length before) 512) (map (scrubbed gridCode) before) before
+pub record Scrubbed (before : List ℕ) (r : PageAnswer) (exit : List ℕ) : Type 0 where
+  pub answer : r ≡ choose (leb (length before) mostGrids) (Done (gridTally before)) (Refused Length)
+  pub after : exit ≡ choose (leb (length before) mostGrids) (map (scrubbed gridCode) before) before

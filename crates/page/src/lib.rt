@@ -3,13 +3,17 @@
 //
 // specs/Calls.antt says what a scrub answers and leaves, specs/Promises.antt what is proved of it.
 ghost use mathlib.Core.Path.{_≡_};
+ghost use mathlib.Core.List.{map};
+ghost use Prim.Native.Nat.{_≤_};
+ghost use lib.ListN.{length};
 ghost use Rattle.codes.specs.Verdict.{verdict, scrubbed};
 ghost use Rattle.grid_code.specs.Code.{gridCode};
-ghost use Rattle.grid.specs.Answer.{means};
-ghost use Rattle.page.specs.Calls.{Scrubbed};
-ghost use Rattle.page.specs.Steps.{none, counted, Roomy};
+ghost use Rattle.grid.specs.Answer.{verdictOf};
+ghost use Rattle.page.specs.Calls.{mostGrids, gridTally, NoGrids, Scrubbed};
+ghost use Rattle.page.specs.Steps.{counted, Roomy};
 use grid::Grid;
 use grid::Verdict;
+use refusals::Refusal;
 
 // The five numbers of a scrub. Flips is the sum over mended grids.
 pub struct Tally {
@@ -21,12 +25,12 @@ pub struct Tally {
 }
 
 // The most grids of a page.
-pub const MOST: usize = 512;
+pub const MOST_GRIDS: usize = 512;
 
-// A scrub that was done, or refused for the page's length.
-pub enum Outcome {
+// The answer of a scrub. A page is refused for its length alone.
+pub enum PageAnswer {
     Done(Tally),
-    Length,
+    Refused(Refusal),
 }
 
 // A grid put right, and the tally with it.
@@ -36,8 +40,9 @@ struct Step {
 }
 
 impl Tally {
-    fn none() -> Tally
-        ensures { λ r. ⌜ r ≡ none ⌝ }
+    // That of no grids.
+    pub fn none() -> Tally
+        ensures { λ r. ⌜ NoGrids r ⌝ }
     {
         Tally {
             grids: 0,
@@ -50,8 +55,8 @@ impl Tally {
 
     // One more verdict.
     fn counted(self, verdict: Verdict) -> Tally
-        requires { ⌜ Roomy self (means verdict) ⌝ }
-        ensures { λ r. ⌜ r ≡ counted self (means verdict) ⌝ }
+        requires { ⌜ Roomy self (verdictOf verdict) ⌝ }
+        ensures { λ r. ⌜ r ≡ counted self (verdictOf verdict) ⌝ }
     {
         let mut next = self;
         next.grids = next.grids + 1;
@@ -93,13 +98,11 @@ impl Tally {
     }
 }
 
-// Scrubs a page of 0 to 512 grids. A longer one is refused, and nothing is written. Nor is a grid that stays as it is.
-pub fn scrub(page: &mut [u64]) -> Outcome
-    ensures { λ r. ⌜ Scrubbed (now (page .entry)) r (now (page .exit)) ⌝ }
+// Grid after grid. One that stays as it is is not written.
+fn each(page: &mut [u64]) -> Tally
+    requires { ⌜ length (now page) ≤ mostGrids ⌝ }
+    ensures { λ r. ⌜ (r ≡ gridTally (now (page .entry))) × (now (page .exit) ≡ map (scrubbed gridCode) (now (page .entry))) ⌝ }
 {
-    if page.len() > MOST {
-        return Outcome::Length;
-    }
     let mut tally = Tally::none();
     let mut i: usize = 0;
     while i < page.len() {
@@ -112,5 +115,15 @@ pub fn scrub(page: &mut [u64]) -> Outcome
         }
         i += 1;
     }
-    Outcome::Done(tally)
+    tally
+}
+
+// Scrubs a page of 0 to 512 grids. A longer one is refused, and nothing is written.
+pub fn scrub(page: &mut [u64]) -> PageAnswer
+    ensures { λ r. ⌜ Scrubbed (now (page .entry)) r (now (page .exit)) ⌝ }
+{
+    if page.len() > MOST_GRIDS {
+        return PageAnswer::Refused(Refusal::Length);
+    }
+    PageAnswer::Done(each(page))
 }

@@ -1,15 +1,11 @@
 -- What a scrub makes of the grids and of the block in a value. Assumes nothing.
 use mathlib.Core.Path.{_≡_, refl, sym, ap, ap₂, _∙_, subst}
-use mathlib.Core.Logic.{⊎-elim}
 use mathlib.Core.Bool.{Bool}
 use mathlib.Core.List.{List, [], _∷_, _++_, map, map-append, append-nil}
 use Prim.Native.Nat.{ℕ, _+_, _-_, _*_, _/_, _%_, _^_, _≤_, _<_}
-use native.Mathlib.Nat.{add-zero}
 use native.Mathlib.Omega.{arith}
 use lib.ListN.{length, take, drop, length-append, length-map, length-drop, take-append-drop, drop-of-length-le}
 use lib.Seq.{take-at, drop-at, length-take-le}
-use types.Run.{OneOf}
-use denote.Enum.Declared.{tagOf}
 use borrow.Author.Tests.{eq-eqb}
 use Rattle.words.specs.Word.{choose}
 use Rattle.words.specs.Digits.{digits, joined, Below}
@@ -17,24 +13,25 @@ use Rattle.words.specs.Bytes.{wordsIn, bytesOf}
 use Rattle.words.proofs.Digits.{length-digits, digits-joined}
 use Rattle.words.proofs.Lists.{part-behind}
 use Rattle.words.proofs.Bytes.{length-words, words-two, bytes-append, bytes-words, words-below}
+use Rattle.refusals.specs.declared.Refusal.the-variants.{Length}
 use Rattle.codes.specs.Verdict.{Verdict, clean, mended, lost, verdict, scrubbed, flipsOf}
-use Rattle.codes.specs.Tally.{isClean, isMended, isLost, sumBy}
-use Rattle.codes.proofs.Tally.{unmended, sum-append}
+use Rattle.codes.specs.Tally.{isClean, isMended, isLost, sumBy, tallyOfOne}
+use Rattle.codes.proofs.Tally.{unmended, sum-append, tallies}
 use Rattle.grid_code.specs.Code.{gridCode}
 use Rattle.grid_code.proofs.Promises as grid
 use Rattle.page.specs.declared.Tally.{Tally}
-use Rattle.page.specs.declared.Outcome.the-variants.{Done}
-use Rattle.page.specs.Calls.{tallyOf, Scrubbed}
-use Rattle.page.proofs.Promises.{laws, counted}
+use Rattle.page.specs.declared.PageAnswer.the-variants.{Done as PageDone}
+use Rattle.page.specs.Calls.{gridTally, Scrubbed}
+use Rattle.page.proofs.Promises.{laws, was-done}
 use Rattle.block_code.specs.Code.{blockCode}
 use Rattle.block_code.proofs.Promises as blocks
 use Rattle.block.specs.Answer.{answerOf}
 use Rattle.block.specs.Calls as block
-use Rattle.block.specs.declared.Outcome.{Outcome}
-use Rattle.block.specs.declared.Outcome.the-variants.{Clean, Mended, Lost, Length}
-use Rattle.block.proofs.Outcome.{the-type}
+use Rattle.block.specs.declared.BlockVerdict.the-variants.{Clean, Mended}
+use Rattle.block.specs.declared.BlockAnswer.{BlockAnswer}
+use Rattle.block.specs.declared.BlockAnswer.the-variants.{Done, Refused}
 use Rattle.value_scrub.specs.declared.Blocks.{Blocks}
-use Rattle.value_scrub.specs.Tally.{blockTally}
+use Rattle.value_scrub.specs.Tally.{ofBlocks, blockTally}
 use Rattle.value_scrub.specs.Steps.{bothGrids, RoomyGrids, ScrubbedGrids, ScrubbedBlock}
 
 -- ---- a scrub that mends nothing changes nothing
@@ -48,24 +45,24 @@ none-mended (w ∷ ws) e =
 -- ---- by way of a page
 
 module _ (value page after : List ℕ) (n : ℕ) (t : Tally) (fits : length value ≡ 8 * n) (bytes : Below 8 value)
-    (taken : page ≡ wordsIn 8 n value) (done : Scrubbed page (Done t) after) where
+    (taken : page ≡ wordsIn 8 n value) (done : Scrubbed page (PageDone t) after) where
   size : length value / 8 ≡ n
   size = omega (arith, fits)
 
   words : page ≡ wordsIn 8 (length value / 8) value
   words = taken ∙ ap (λ (n : ℕ). wordsIn 8 n value) (sym size)
 
-  tally : t ≡ tallyOf (wordsIn 8 (length value / 8) value)
-  tally = counted page after t done .1 ∙ ap tallyOf words
+  tally : t ≡ gridTally (wordsIn 8 (length value / 8) value)
+  tally = was-done page after t done .1 ∙ ap gridTally words
 
   still : length value ≡ 8 * length after
-  still = fits ∙ ap (λ n. 8 * n) (sym (ap length (counted page after t done .2 ∙ ap (map (scrubbed gridCode)) taken)
+  still = fits ∙ ap (λ n. 8 * n) (sym (ap length (was-done page after t done .2 ∙ ap (map (scrubbed gridCode)) taken)
       ∙ length-map (wordsIn 8 n value) (scrubbed gridCode) ∙ length-words 8 n value))
 
   pub page-written : (exit : List ℕ) → (length value ≡ 8 * length after → exit ≡ bytesOf 8 after) → ScrubbedGrids value t exit
   page-written exit e = record {
     answer = tally;
-    after = e still ∙ ap (bytesOf 8) (counted page after t done .2 ∙ ap (map (scrubbed gridCode)) words);
+    after = e still ∙ ap (bytesOf 8) (was-done page after t done .2 ∙ ap (map (scrubbed gridCode)) words);
   }
 
   pub page-kept : t .mended ≡ 0 → ScrubbedGrids value t value
@@ -79,7 +76,7 @@ module _ (value page after : List ℕ) (n : ℕ) (t : Tally) (fits : length valu
 
 -- ---- two parts of a value
 
-pub tally-two : (a b : List ℕ) → tallyOf (a ++ b) ≡ bothGrids (tallyOf a) (tallyOf b)
+pub tally-two : (a b : List ℕ) → gridTally (a ++ b) ≡ bothGrids (gridTally a) (gridTally b)
 tally-two a b = λ i. record {
   grids = length-append a b i;
   clean = sum-append gridCode isClean a b i;
@@ -98,7 +95,7 @@ grids-two a b a′ b′ r s p q x y =
     let ws : wordsIn 8 (length (a ++ b) / 8) (a ++ b) ≡ wordsIn 8 m a ++ wordsIn 8 n b =
     ap (λ (j : ℕ). wordsIn 8 j (a ++ b)) e ∙ words-two 8 m n a b (omega (arith, p)) in
     record {
-      answer = ap₂ bothGrids (x .answer) (y .answer) ∙ sym (ap tallyOf ws ∙ tally-two (wordsIn 8 m a) (wordsIn 8 n b));
+      answer = ap₂ bothGrids (x .answer) (y .answer) ∙ sym (ap gridTally ws ∙ tally-two (wordsIn 8 m a) (wordsIn 8 n b));
       after =
           ap₂ {C = List ℕ} (λ (c d : List ℕ). c ++ d) (x .after) (y .after)
           ∙ sym (bytes-append 8 (map (scrubbed gridCode) (wordsIn 8 m a)) (map (scrubbed gridCode) (wordsIn 8 n b)))
@@ -106,12 +103,12 @@ grids-two a b a′ b′ r s p q x y =
     }
 
 -- the numbers of a tally are small
-pub grids-few : (k : ℕ) (ws vs : List ℕ) → length ws ≤ k → length vs ≤ k → 14 * k < 2 ^ 32 → RoomyGrids (tallyOf ws) (tallyOf vs)
+pub grids-few : (k : ℕ) (ws vs : List ℕ) → length ws ≤ k → length vs ≤ k → 14 * k < 2 ^ 32 → RoomyGrids (gridTally ws) (gridTally vs)
 grids-few k ws vs p q h =
     let few = laws .flips in
     let all = laws .all in
     record {
-      grids = omega arith;
+      words = omega arith;
       clean = omega (arith, all ws, all vs);
       mended = omega (arith, all ws, all vs);
       lost = omega (arith, all ws, all vs);
@@ -123,7 +120,7 @@ pub grids-roomy : (a b a′ b′ : List ℕ) (r s : Tally) → length a ≤ 3276
 grids-roomy a b a′ b′ r s l m x y =
     let few = grids-few 4096 (wordsIn 8 (length a / 8) a) (wordsIn 8 (length b / 8) b) (omega (arith, length-words 8 (length a / 8) a))
     (omega (arith, length-words 8 (length b / 8) b)) (omega arith) in
-    subst (λ r. RoomyGrids r s) (sym (x .answer)) (subst (RoomyGrids (tallyOf (wordsIn 8 (length a / 8) a))) (sym (y .answer)) few)
+    subst (λ r. RoomyGrids r s) (sym (x .answer)) (subst (RoomyGrids (gridTally (wordsIn 8 (length a / 8) a))) (sym (y .answer)) few)
 
 -- the first n bytes, and what is lent behind them
 pub grids-parts : (n : ℕ) (v a′ b′ : List ℕ) (r s : Tally) → n ≤ length v → n % 8 ≡ 0 → length v % 8 ≡ 0 → length a′ ≡ n → ScrubbedGrids (take n v) r a′
@@ -143,40 +140,19 @@ grids-parts n v a′ b′ r s l p q e x y =
 
 -- ---- a block
 
--- what a block's verdict counts, and what its answer does
-abbrev ofVerdict : Verdict → Blocks
-ofVerdict v = record { blocks = 1; clean = isClean v; mended = isMended v; lost = isLost v; flips = flipsOf v }
+-- what a block's answer counts, ..
+abbrev pub ofAnswer : BlockAnswer → Blocks
+ofAnswer (Done Clean) = record { blocks = 1; clean = 1; mended = 0; lost = 0; flips = 0 }
+ofAnswer (Done (Mended n)) = record { blocks = 1; clean = 0; mended = 1; lost = 0; flips = n }
+ofAnswer (Refused why) = record { blocks = 1; clean = 0; mended = 0; lost = 1; flips = 0 }
 
-abbrev pub ofAnswer : Outcome → Blocks
-ofAnswer Clean = record { blocks = 1; clean = 1; mended = 0; lost = 0; flips = 0 }
-ofAnswer (Mended n) = record { blocks = 1; clean = 0; mended = 1; lost = 0; flips = n }
-ofAnswer Lost = record { blocks = 1; clean = 0; mended = 0; lost = 1; flips = 0 }
-ofAnswer Length = record { blocks = 1; clean = 0; mended = 0; lost = 1; flips = 0 }
-
--- as the last arm of a match has it
-pub not-mended : (r : Outcome) → OneOf (2 ∷ 3 ∷ []) (tagOf the-type r)
-    → ofAnswer r ≡ record { blocks = 1; clean = 0; mended = 0; lost = 1; flips = 0 }
-not-mended Clean k = absurd (⊎-elim (λ e. omega (arith, e)) (λ e. omega (arith, e)) k)
-not-mended (Mended n) k = absurd (⊎-elim (λ e. omega (arith, e)) (λ e. omega (arith, e)) k)
-not-mended Lost k = refl
-not-mended Length k = refl
-
-one-block : (w : ℕ) → blockTally (w ∷ []) ≡ ofVerdict (verdict blockCode w)
-unfolding sumBy
-one-block w = λ i. record {
-  blocks = 1;
-  clean = add-zero (isClean (verdict blockCode w)) i;
-  mended = add-zero (isMended (verdict blockCode w)) i;
-  lost = add-zero (isLost (verdict blockCode w)) i;
-  flips = add-zero (flipsOf (verdict blockCode w)) i;
-}
-
-answered : (v : Verdict) → ofAnswer (answerOf v) ≡ ofVerdict v
+-- .. and its verdict does
+answered : (v : Verdict) → ofAnswer (answerOf v) ≡ ofBlocks (tallyOfOne v)
 answered (clean d) = refl
 answered (mended d n) = refl
 answered lost = refl
 
-module _ (value words after : List ℕ) (r : Outcome) (fits : length value ≡ 76) (bytes : Below 8 value) (taken : words ≡ wordsIn 2 38 value)
+module _ (value words after : List ℕ) (r : BlockAnswer) (fits : length value ≡ 76) (bytes : Below 8 value) (taken : words ≡ wordsIn 2 38 value)
     (done : block.Scrubbed words r after) where
   w : ℕ
   w = joined 16 (wordsIn 2 38 value)
@@ -187,11 +163,11 @@ module _ (value words after : List ℕ) (r : Outcome) (fits : length value ≡ 7
   told : r ≡ answerOf (verdict blockCode w)
   unfolding w
   told =
-      done .answer ∙ ap (λ (b : Bool). choose b (answerOf (verdict blockCode (joined 16 words))) Length) (eq-eqb (length words) 38 thirty-eight)
+      done .answer ∙ ap (λ (b : Bool). choose b (answerOf (verdict blockCode (joined 16 words))) (Refused Length)) (eq-eqb (length words) 38 thirty-eight)
       ∙ ap (λ l. answerOf (verdict blockCode (joined 16 l))) taken
 
   answer : ofAnswer r ≡ blockTally (w ∷ [])
-  answer = ap ofAnswer told ∙ answered (verdict blockCode w) ∙ sym (one-block w)
+  answer = ap ofAnswer told ∙ answered (verdict blockCode w) ∙ sym (ap ofBlocks (tallies blockCode (blocks.promised .verdicts) .one w))
 
   is-after : after ≡ digits 16 38 (scrubbed blockCode w)
   unfolding w

@@ -1,14 +1,16 @@
 -- What the scrub of a value computes, so that the contracts can say it. No promise to a caller cites this file. Assumes nothing.
 use mathlib.Core.Path.{_≡_}
 use mathlib.Core.List.{List, [], _∷_, map}
-use Prim.Native.Nat.{ℕ, _+_, _/_, _^_, _<_}
+use Prim.Native.Nat.{ℕ, _/_}
 use lib.ListN.{length}
 use Rattle.words.specs.Digits.{digits, joined}
 use Rattle.words.specs.Bytes.{wordsIn, bytesOf}
 use Rattle.codes.specs.Verdict.{scrubbed}
+use Rattle.codes.specs.Tally.{plus, Small}
 use Rattle.grid_code.specs.Code.{gridCode}
 use Rattle.page.specs.declared.Tally.{Tally}
-use Rattle.page.specs.Calls.{tallyOf}
+use Rattle.page.specs.Answer.{tallyIn}
+use Rattle.page.specs.Calls.{ofGrids, gridTally}
 use Rattle.block_code.specs.Code.{blockCode}
 use Rattle.value_scrub.specs.declared.Blocks.{Blocks}
 use Rattle.value_scrub.specs.Tally.{blockTally}
@@ -19,26 +21,20 @@ abbrev pub noBlocks : Blocks
 noBlocks = record { blocks = 0; clean = 0; mended = 0; lost = 0; flips = 0 }
 
 abbrev pub bothGrids : Tally → Tally → Tally
-bothGrids a b = record {
-  grids = a .grids + b .grids;
-  clean = a .clean + b .clean;
-  mended = a .mended + b .mended;
-  lost = a .lost + b .lost;
-  flips = a .flips + b .flips;
-}
+bothGrids a b = ofGrids (plus (tallyIn a) (tallyIn b))
 
 -- there is room for each sum
-pub record RoomyGrids (a b : Tally) : Type 0 where
-  pub grids : a .grids + b .grids < 2 ^ 32
-  pub clean : a .clean + b .clean < 2 ^ 32
-  pub mended : a .mended + b .mended < 2 ^ 32
-  pub lost : a .lost + b .lost < 2 ^ 32
-  pub flips : a .flips + b .flips < 2 ^ 32
+abbrev pub RoomyGrids : Tally → Tally → Type 0
+RoomyGrids a b = Small (plus (tallyIn a) (tallyIn b))
 
 -- ---- values
 
+-- the grids that are laid out at a time
+abbrev pub pageGrids : ℕ
+pageGrids = 64
+
 pub record ScrubbedGrids (value : List ℕ) (r : Tally) (exit : List ℕ) : Type 0 where
-  pub answer : r ≡ tallyOf (wordsIn 8 (length value / 8) value)
+  pub answer : r ≡ gridTally (wordsIn 8 (length value / 8) value)
   pub after : exit ≡ bytesOf 8 (map (scrubbed gridCode) (wordsIn 8 (length value / 8) value))
 
 pub record ScrubbedBlock (value : List ℕ) (r : Blocks) (exit : List ℕ) : Type 0 where

@@ -6,9 +6,13 @@
 ghost use mathlib.Core.Path.{_≡_};
 ghost use Prim.Native.Nat.{_*_, _%_, _≤_};
 ghost use lib.ListN.{length};
-ghost use Rattle.page.specs.Steps.{none};
-ghost use Rattle.value_scrub.specs.Steps.{ScrubbedGrids, ScrubbedBlock, RoomyGrids, noBlocks, bothGrids};
+ghost use Rattle.page.specs.Calls.{mostGrids};
+ghost use Rattle.fields.specs.Fields.{gridsMost, blockBytes};
+ghost use Rattle.value_scrub.specs.Steps.{ScrubbedGrids, ScrubbedBlock, RoomyGrids, noBlocks, bothGrids, pageGrids};
 use block::Block;
+use block::BlockAnswer;
+use block::BlockVerdict;
+use page::PageAnswer;
 use page::Tally;
 
 // The five numbers of a scrub, of blocks. Flips is the sum over mended blocks.
@@ -20,18 +24,12 @@ pub struct Blocks {
     pub flips: u32,
 }
 
-pub fn no_grids() -> Tally
-    ensures { λ r. ⌜ r ≡ none ⌝ }
-{
-    Tally {
-        grids: 0,
-        clean: 0,
-        mended: 0,
-        lost: 0,
-        flips: 0,
-    }
-}
+// The grids that are laid out at a time, and their bytes: half a kilobyte of stack.
+const PAGE_GRIDS: usize = 64;
 
+const PAGE_BYTES: usize = 8 * PAGE_GRIDS;
+
+// The tally of no blocks.
 pub fn no_blocks() -> Blocks
     ensures { λ r. ⌜ r ≡ noBlocks ⌝ }
 {
@@ -59,74 +57,76 @@ pub fn both(here: Tally, there: Tally) -> Tally
 
 // Grids scrubbed by way of a page of their number. Where none was mended, nothing is written.
 fn by_page(value: &mut [u8], page: &mut [u64]) -> Tally
-    requires { ⌜ (length (now value) ≡ 8 * length (now page)) × (length (now page) ≤ 512) ⌝ }
+    requires { ⌜ (length (now value) ≡ 8 * length (now page)) × (length (now page) ≤ mostGrids) ⌝ }
     ensures { λ r. ⌜ ScrubbedGrids (now (value .entry)) r (now (value .exit)) ⌝ }
 {
     values::grids(value, page);
     match page::scrub(page) {
-        page::Outcome::Done(tally) => {
+        PageAnswer::Done(tally) => {
             if tally.mended > 0 {
                 values::put_grids(value, page);
             }
             tally
         }
-        page::Outcome::Length => no_grids(),
+        PageAnswer::Refused(_) => Tally::none(),
     }
 }
 
-// Grids, 64 at a time.
+// Grids, a page at a time.
 fn by_pages(value: &mut [u8], page: &mut [u64]) -> Tally
-    requires { ⌜ (length (now value) ≤ 4096) × (length (now value) % 8 ≡ 0) × (length (now page) ≡ 64) ⌝ }
+    requires { ⌜ (length (now value) ≤ gridsMost) × (length (now value) % 8 ≡ 0) × (length (now page) ≡ pageGrids) ⌝ }
     ensures { λ r. ⌜ ScrubbedGrids (now (value .entry)) r (now (value .exit)) ⌝ }
 {
-    if value.len() <= 512 {
+    if value.len() <= PAGE_BYTES {
         let n = value.len() / 8;
         return by_page(value, &mut page[..n]);
     }
-    let here = by_page(&mut value[..512], page);
-    let there = by_pages(&mut value[512..], page);
+    let here = by_page(&mut value[..PAGE_BYTES], page);
+    let there = by_pages(&mut value[PAGE_BYTES..], page);
     both(here, there)
 }
 
 // The value of a grids field. One of another length stays as it is.
 pub fn grids(value: &mut [u8]) -> Tally
-    ensures { λ r. ⌜ ((length (now (value .entry)) ≤ 4096) × (length (now (value .entry)) % 8 ≡ 0) → ScrubbedGrids (now (value .entry)) r (now (value .exit))) ⌝ }
+    ensures { λ r. ⌜ ((length (now (value .entry)) ≤ gridsMost) × (length (now (value .entry)) % 8 ≡ 0) → ScrubbedGrids (now (value .entry)) r (now (value .exit))) ⌝ }
 {
-    if value.len() > 4096 {
-        return no_grids();
+    if value.len() > fields::GRIDS_MOST {
+        return Tally::none();
     }
     if value.len() % 8 != 0 {
-        return no_grids();
+        return Tally::none();
     }
-    let mut page = [0u64; 64];
+    let mut page = [0u64; PAGE_GRIDS];
     by_pages(value, &mut page)
 }
 
 // A block scrubbed by way of its words. Where nothing was mended, nothing is written.
 fn by_words(value: &mut [u8], words: &mut [u16]) -> Blocks
-    requires { ⌜ (length (now value) ≡ 76) × (length (now words) ≡ 38) ⌝ }
+    requires { ⌜ (length (now value) ≡ blockBytes) × (length (now words) ≡ 38) ⌝ }
     ensures { λ r. ⌜ ScrubbedBlock (now (value .entry)) r (now (value .exit)) ⌝ }
 {
     values::words(value, words);
     match Block::scrub(words) {
-        block::Outcome::Clean => Blocks {
-            blocks: 1,
-            clean: 1,
-            mended: 0,
-            lost: 0,
-            flips: 0,
-        },
-        block::Outcome::Mended { flips } => {
-            values::put_words(value, words);
-            Blocks {
+        BlockAnswer::Done(verdict) => match verdict {
+            BlockVerdict::Clean => Blocks {
                 blocks: 1,
-                clean: 0,
-                mended: 1,
+                clean: 1,
+                mended: 0,
                 lost: 0,
-                flips,
+                flips: 0,
+            },
+            BlockVerdict::Mended { flips } => {
+                values::put_words(value, words);
+                Blocks {
+                    blocks: 1,
+                    clean: 0,
+                    mended: 1,
+                    lost: 0,
+                    flips,
+                }
             }
-        }
-        _ => Blocks {
+        },
+        BlockAnswer::Refused(_) => Blocks {
             blocks: 1,
             clean: 0,
             mended: 0,
@@ -138,9 +138,9 @@ fn by_words(value: &mut [u8], words: &mut [u16]) -> Blocks
 
 // The value of a block field. One of another length stays as it is.
 pub fn block(value: &mut [u8]) -> Blocks
-    ensures { λ r. ⌜ (length (now (value .entry)) ≡ 76 → ScrubbedBlock (now (value .entry)) r (now (value .exit))) ⌝ }
+    ensures { λ r. ⌜ (length (now (value .entry)) ≡ blockBytes → ScrubbedBlock (now (value .entry)) r (now (value .exit))) ⌝ }
 {
-    if value.len() != 76 {
+    if value.len() != fields::BLOCK {
         return no_blocks();
     }
     let mut words = [0u16; 38];

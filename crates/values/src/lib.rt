@@ -1,6 +1,5 @@
 // The bytes of a field's value as grids and as words, and back. Each function works at the front of a slice, and accepts every input; what
-// it does is promised where the lengths fit. The proofs also have the laws of a walk over sound fields, which scrubbing and reading back
-// share. No promise to a caller cites this crate.
+// it does is promised where the lengths fit. No promise to a caller cites this crate.
 ghost use mathlib.Core.Path.{_≡_};
 ghost use Prim.Native.Nat.{_*_, _≤_};
 ghost use lib.ListN.{length, take};

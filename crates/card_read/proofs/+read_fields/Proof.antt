@@ -17,11 +17,11 @@ use Rattle.fields.specs.Fields.{fieldOf}
 use Rattle.fields.proofs.front.Reads as front-reads
 use Rattle.fields.proofs.Fields.{known, value-is, value-long}
 use Rattle.image.specs.Card.{walk, gridsIn}
-use Rattle.values.proofs.Walks.{less, grids-front, block-front, only-end, walks-on, block-walks-on}
+use Rattle.image.proofs.Walks.{less, grids-front, block-front, only-end, walks-on, block-walks-on}
 use Rattle.value_read.specs.Shown.{dataOfGrid, flipsOfGrid, dataOfGrids, flipsOfGrids}
 use Rattle.value_read.proofs.grids.Reads as grids-reads
 use Rattle.card_read.specs.Steps.{ReadsFields}
-use Rattle.card_read.proofs.Readings.{counted, whole-grids, read-on}
+use Rattle.card_read.proofs.Readings.{grids-many, whole-grids, read-on}
 use Rattle.card_read.proofs.read_fields.Reads as read-fields
 use Rattle.card_read.proofs.read_fields.Kinds as read-fields-kinds
 use Rattle.card_read.proofs.+read_fields.Lts-read_fields as lts
@@ -43,7 +43,7 @@ room-behind : (s numbers flips : List ℕ) (n : ℕ) (r : ReadsFields s numbers 
 room-behind s numbers flips n r f =
     let w = r .walks in
     let front = grids-front (w .at) s (w .parts) (w .left) n f (w .found) in
-    let all = counted s (w .parts) n (less (w .left)) (w .at + (3 + n)) f front in
+    let all = grids-many s (w .parts) n (less (w .left)) (w .at + (3 + n)) f front in
     (omega (arith, all, r .numbers-room), omega (arith, all, r .flips-room), whole-grids s (w .parts) n (less (w .left)) (w .at + (3 + n)) f front)
 
 reads-on : (s numbers flips numbers′ flips′ : List ℕ) (n : ℕ) (r : ReadsFields s numbers flips) → fieldOf s ≡ Grids n
@@ -51,7 +51,7 @@ reads-on : (s numbers flips numbers′ flips′ : List ℕ) (n : ℕ) (r : Reads
 reads-on s numbers flips numbers′ flips′ n r f p q =
     let w = r .walks in
     let front = grids-front (w .at) s (w .parts) (w .left) n f (w .found) in
-    let all = counted s (w .parts) n (less (w .left)) (w .at + (3 + n)) f front in
+    let all = grids-many s (w .parts) n (less (w .left)) (w .at + (3 + n)) f front in
     let here : length (gridsIn (front .behind)) ≤ length numbers′ = omega (arith, all, r .numbers-room, p) in
     let there : length (gridsIn (front .behind)) ≤ length flips′ = omega (arith, all, r .flips-room, q) in
     record { walks = walks-on s n w f; numbers-room = here; flips-room = there }
@@ -209,6 +209,6 @@ pub +read-fields-spec : {M : Type 1} → statement M
     close μ-read-fields λ t. lts.spec (front-reads.Asked, front-reads.Learnt, grids-reads.Asked, grids-reads.Learnt, read-fields-below t, read-fields.Post) (read-fields-at t) read-fields.Post
     (λ c κs. search needs) (λ c. search needs) (add-end t) (λ c. search needs) (λ c. search needs) (grids-end t) (λ c κs. search needs)
     (behind-grids t) (from-grids t) (λ c. search needs) (λ c. search needs) (numbers-left t) (from-numbers t) (λ c. search needs)
-    (flips-left t) (from-flips t) (λ c. search needs) (grids-walk t) (λ c. search needs) (behind-block t) (from-block t)
+    (flips-left t) (from-flips t) (λ c. search needs) (grids-walk t) (λ c. search needs) (λ c. search needs) (behind-block t) (from-block t)
     (λ c. search needs) (block-walk t) (λ c. search needs) (λ c. search needs) (with-grids t) (λ c. search needs) (λ c. search needs)
     (past-block t) (at-end t)

@@ -1,5 +1,5 @@
--- `card_write::write` meets its contract: 3, then 4, then 6. Assumes nothing.
-use mathlib.Core.Path.{_≡_, sym, ap, _∙_}
+-- `card_write::write` meets its contract: lengths, then the title's bytes, then room. Assumes nothing.
+use mathlib.Core.Path.{_≡_, sym, _∙_, subst}
 use mathlib.Core.Bool.{Bool, true, false, not}
 use Prim.Native.Nat.{ℕ}
 use native.Mathlib.Omega.{arith}
@@ -7,14 +7,13 @@ use lib.ListN.{length}
 use denote.Ref.{now}
 use borrow.Author.Tests.{not-true, not-false}
 use borrow.Author.Needs.{needs}
-use Rattle.words.specs.Bytes.{laid}
+use Rattle.refusals.specs.declared.Refusal.the-variants.{Broken}
 use Rattle.fields.specs.Fields.{titleLength}
 use Rattle.fields.specs.Calls.{Measured}
 use Rattle.fields.proofs.Titles.{title-length}
-use Rattle.image.specs.Card.{imageOf}
-use Rattle.card_write.specs.declared.WriteAnswer.the-variants.{Done, Length as WriteLength, Title, Room}
-use Rattle.card_write.specs.Calls.{cardWith, sizeWritten}
-use Rattle.card_write.proofs.Writes.{no-title, many-numbers, allowed, is-long, is-bad, is-short, is-done}
+use Rattle.card_write.specs.declared.WriteAnswer.the-variants.{Done, Refused}
+use Rattle.card_write.specs.Calls.{sizeWritten, Wrote}
+use Rattle.card_write.proofs.Writes.{no-title, many-numbers, allowed, not-allowed, bad-byte, no-room, done}
 use Rattle.card_write.proofs.write.Statement.{statement}
 use Rattle.card_write.proofs.write.Tie as tie
 
@@ -31,11 +30,7 @@ returns c =
     let t = now (s .args .title) in
     let ns = now (s .args .numbers) in
     let image = now (s .args .image) in
-    let e = no-title t ns image (too-long (c .before .is-title-length .ensures) (c .if1 .taken)) in
-    record {
-      answer = sym (is-long t ns image WriteLength Title _ _ e);
-      after = sym (is-long t ns image image (λ at. image) _ _ e);
-    }
+    not-allowed t ns image (no-title t ns (too-long (c .before .is-title-length .ensures) (c .if1 .taken)))
 
 returns-2 : tie.Need-returns-2
 returns-2 c =
@@ -43,11 +38,8 @@ returns-2 c =
     let t = now (s .args .title) in
     let ns = now (s .args .numbers) in
     let image = now (s .args .image) in
-    let e = many-numbers t ns image (right (c .before .before .is-title-length .ensures) (c .before .if1 .left)) (omega (arith, c .if2 .taken)) in
-    record {
-      answer = sym (is-long t ns image WriteLength Title _ _ e);
-      after = sym (is-long t ns image image (λ at. image) _ _ e);
-    }
+    not-allowed t ns image
+    (many-numbers t ns (right (c .before .before .is-title-length .ensures) (c .before .if1 .left)) (omega (arith, c .if2 .taken)))
 
 returns-3 : tie.Need-returns-3
 returns-3 c =
@@ -56,12 +48,9 @@ returns-3 c =
     let ns = now (s .args .numbers) in
     let image = now (s .args .image) in
     let asked = c .before .before .before in
-    let lengths = allowed t ns image (right (asked .before .is-title-length .ensures) (asked .if1 .left)) (omega (arith, c .before .before .if2 .left)) in
+    let lengths = allowed t ns (right (asked .before .is-title-length .ensures) (asked .if1 .left)) (omega (arith, c .before .before .if2 .left)) in
     let bad = c .before .first-bad .ensures .answer in
-    record {
-      answer = ap Title bad ∙ sym (is-bad t ns image _ Title _ _ lengths (λ e. c .if3 .taken (bad ∙ e)));
-      after = sym (is-bad t ns image _ (λ at. image) _ _ lengths (λ e. c .if3 .taken (bad ∙ e)));
-    }
+    subst (λ (k : ℕ). Wrote t ns image (Refused (Broken k)) image) (sym bad) (bad-byte t ns image lengths (λ e. c .if3 .taken (bad ∙ e)))
 
 returns-4 : tie.Need-returns-4
 returns-4 c =
@@ -70,12 +59,8 @@ returns-4 c =
     let ns = now (s .args .numbers) in
     let image = now (s .args .image) in
     let asked = c .before .before .before .before in
-    let lengths = allowed t ns image (right (asked .before .is-title-length .ensures) (asked .if1 .left)) (omega (arith, c .before .before .before .if2 .left)) in
-    let fine = sym (c .before .before .first-bad .ensures .answer) ∙ c .before .if3 .left in
-    record {
-      answer = sym (is-short t ns image _ Title Room _ lengths fine (omega (arith, c .if4 .taken)));
-      after = sym (is-short t ns image _ (λ at. image) image _ lengths fine (omega (arith, c .if4 .taken)));
-    }
+    let lengths = allowed t ns (right (asked .before .is-title-length .ensures) (asked .if1 .left)) (omega (arith, c .before .before .before .if2 .left)) in
+    no-room t ns image lengths (sym (c .before .before .first-bad .ensures .answer) ∙ c .before .if3 .left) (omega (arith, c .if4 .taken))
 
 lay-requires : tie.Need-lay-requires
 lay-requires c κs =
@@ -93,18 +78,13 @@ returns-5 c =
     let ns = now (s .args .numbers) in
     let image = now (s .args .image) in
     let asked = c .before .before .before .before .before .before .before .before in
-    let lengths = allowed t ns image (right (asked .before .is-title-length .ensures) (asked .if1 .left)) (omega (arith, c .before .before .before .before .before .before .before .if2 .left)) in
+    let lengths = allowed t ns (right (asked .before .is-title-length .ensures) (asked .if1 .left)) (omega (arith, c .before .before .before .before .before .before .before .if2 .left)) in
     let fine = sym (c .before .before .before .before .before .before .first-bad .ensures .answer) ∙ c .before .before .before .before .before .if3 .left in
-    let room = c .before .before .before .before .if4 .left in
-    record {
-      answer = sym (is-done t ns image _ Title _ (Done (sizeWritten t ns)) lengths fine (omega (arith, room)));
-      after =
-          c .before .before .lay .ensures
-          ∙ sym (is-done t ns image _ (λ at. image) _ (laid (imageOf (cardWith t ns)) image) lengths fine (omega (arith, room)));
-    }
+    subst (Wrote t ns image (Done (sizeWritten t ns))) (sym (c .before .before .lay .ensures))
+    (done t ns image lengths fine (omega (arith, c .before .before .before .before .if4 .left)))
 
 pub write-spec : {M : Type 1} → statement M
 write-spec =
     tie.close
     (tie.spec (λ c κs. search needs) returns returns-2 (λ c κs. search needs) returns-3 (λ c. search needs) (λ c. search needs) (λ c. search needs)
-    returns-4 lay-requires (λ c. search needs) returns-5)
+    (λ c. search needs) returns-4 lay-requires (λ c. search needs) returns-5)

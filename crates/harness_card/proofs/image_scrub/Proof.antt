@@ -6,7 +6,8 @@ use lib.ListN.{length, length-set}
 use denote.Ref.{now}
 use borrow.Author.Needs.{needs}
 use Rattle.words.proofs.Turns.{stored}
-use Rattle.harness_card.specs.Exports.{scrubGives, shown, scrubs, stays}
+use Rattle.card_scrub.specs.Answer.{means}
+use Rattle.harness_card.specs.Exports.{scrubShown, tallied, scrubs, stays}
 use Rattle.harness_card.proofs.image_scrub.Statement.{statement}
 use Rattle.harness_card.proofs.image_scrub.Tie as tie
 
@@ -21,26 +22,19 @@ returns-2 c =
     let ten : length (now (a .tallies)) ≡ 10 = omega arith in
     let g = is .0 .0 .grids in
     let b = is .0 .0 .blocks in
-    scrubs ten (s .result) (s .ensures) (c .packed2 .ensures ∙ sym (ap scrubGives (is .1)))
+    scrubs ten (s .result) (s .ensures) (c .packed2 .ensures ∙ sym (ap scrubShown (is .1)))
     (stored (g .grids ∷ g .clean ∷ g .mended ∷ g .lost ∷ g .flips ∷ b .blocks ∷ b .clean ∷ b .mended ∷ b .lost ∷ b .flips ∷ [])
     (now (a .tallies)) (omega arith)
-    ∙ sym (ap (λ r. shown r (now (a .tallies))) (is .1)))
+    ∙ sym (ap (λ r. tallied (means r) (now (a .tallies))) (is .1)))
 
 returns-3 : tie.Need-returns-3
 returns-3 c =
-    let a = c .before .before .before .before .before .before .before .before .before .before .args in
-    let s = c .before .before .before .before .before .scrub in
-    let is = c .before .enum-told .given in
-    let ten : length (now (a .tallies)) ≡ 10 = omega arith in
-    scrubs ten (s .result) (s .ensures) (c .packed3 .ensures ∙ sym (ap scrubGives (is .1))) (sym (ap (λ r. shown r (now (a .tallies))) (is .1)))
-
-returns-4 : tie.Need-returns-4
-returns-4 c =
-    let a = c .before .before .before .before .before .before .before .before .before .before .before .args in
+    let tallies = now (c .before .before .before .before .before .before .before .before .before .before .before .args .tallies) in
     let s = c .before .before .before .before .before .before .scrub in
-    let is = c .before .before .at .given in
-    let ten : length (now (a .tallies)) ≡ 10 = omega arith in
-    scrubs ten (s .result) (s .ensures) (c .packed4 .ensures ∙ sym (ap scrubGives (is .1))) (sym (ap (λ r. shown r (now (a .tallies))) (is .1)))
+    let why = c .before .before .why .given in
+    let ten : length tallies ≡ 10 = omega arith in
+    scrubs ten (s .result) (s .ensures) (c .refused .ensures ∙ sym (ap scrubShown (why .1)))
+    (sym (ap (λ r. tallied (means r) tallies) (why .1)))
 
 pub image-scrub-spec : {M : Type 1} → statement M
 image-scrub-spec =
@@ -49,5 +43,5 @@ image-scrub-spec =
     (λ c. simp length-set (omega arith)) (λ c. simp length-set (omega arith)) (λ c. simp length-set (omega arith))
     (λ c. simp length-set (omega arith)) (λ c. simp length-set (omega arith)) (λ c. simp length-set (omega arith))
     (λ c. simp length-set (omega arith)) (λ c. simp length-set (omega arith)) (λ c. simp length-set (omega arith)) (λ c κs. search needs)
-    (λ c. search needs) (λ c κs. search needs) (λ c. search needs) (λ c κs. search needs) (λ c. search needs)
-    (λ c. simp length-set (omega arith)) returns-2 (λ c. search needs) returns-3 (λ c. search needs) returns-4)
+    (λ c. search needs) (λ c κs. search needs) (λ c. search needs) (λ c. simp length-set (omega arith)) returns-2 (λ c. search needs)
+    returns-3)

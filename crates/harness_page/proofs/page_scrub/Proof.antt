@@ -6,7 +6,8 @@ use lib.ListN.{length, length-set}
 use denote.Ref.{now}
 use borrow.Author.Needs.{needs}
 use Rattle.words.proofs.Turns.{stored}
-use Rattle.page.specs.Answer.{numberOf}
+use Rattle.refusals.specs.Reply.{numberIn}
+use Rattle.page.specs.Answer.{means}
 use Rattle.harness_page.specs.Exports.{shown, scrubs, stays}
 use Rattle.harness_page.proofs.page_scrub.Statement.{statement}
 use Rattle.harness_page.proofs.page_scrub.Tie as tie
@@ -20,21 +21,22 @@ returns-2 c =
     let s = c .before .before .before .before .before .scrub in
     let t = c .before .t .given .0 .0 in
     let five : length (now (a .tally)) ≡ 5 = omega arith in
-    scrubs five (s .result) (s .ensures) (sym (ap numberOf (c .before .t .given .1)))
+    scrubs five (s .result) (s .ensures) (sym (ap (λ r. numberIn (means r)) (c .before .t .given .1)))
     (stored (t .grids ∷ t .clean ∷ t .mended ∷ t .lost ∷ t .flips ∷ []) (now (a .tally)) (omega arith)
     ∙ sym (ap (λ r. shown r (now (a .tally))) (c .before .t .given .1)))
 
 returns-3 : tie.Need-returns-3
 returns-3 c =
-    let a = c .before .before .before .before .before .before .before .before .before .args in
-    let s = c .before .before .before .before .scrub in
+    let at = c .before .before in
+    let a = at .before .before .before .before .before .before .before .before .before .args in
+    let s = at .before .before .before .before .scrub in
     let five : length (now (a .tally)) ≡ 5 = omega arith in
-    scrubs five (s .result) (s .ensures) (sym (ap numberOf (c .enum-told .given .1)))
-    (sym (ap (λ r. shown r (now (a .tally))) (c .enum-told .given .1)))
+    scrubs five (s .result) (s .ensures) (c .number .ensures .answer ∙ sym (ap (λ r. numberIn (means r)) (at .why .given .1)))
+    (sym (ap (λ r. shown r (now (a .tally))) (at .why .given .1)))
 
 pub page-scrub-spec : {M : Type 1} → statement M
 page-scrub-spec =
     tie.close
     (tie.spec returns (λ c κs. search needs) (λ c. search needs) (λ c. search needs) (λ c. simp length-set (omega arith))
     (λ c. simp length-set (omega arith)) (λ c. simp length-set (omega arith)) (λ c. simp length-set (omega arith)) (λ c. search needs)
-    (λ c. search needs) (λ c. search needs) returns-2 (λ c. search needs) returns-3)
+    (λ c κs. search needs) (λ c. search needs) (λ c. search needs) returns-2 (λ c. search needs) returns-3)

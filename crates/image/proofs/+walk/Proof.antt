@@ -10,9 +10,10 @@ use borrow.Author.Needs.{needs}
 use borrow.Fn.Kinds.{In}
 use borrow.Fn.PlainCycle.{Measures, is, falls, and}
 use Rattle.words.proofs.Lists.{part-behind, length-part}
+use Rattle.refusals.specs.declared.Refusal.the-variants.{Broken}
 use Rattle.fields.proofs.Fields.{known}
 use Rattle.fields.proofs.front.Reads as front-reads
-use Rattle.image.specs.declared.Outcome.the-variants.{Sound, Broken}
+use Rattle.image.specs.declared.CheckAnswer.the-variants.{Done, Refused}
 use Rattle.image.specs.Card.{sound, broken, walk as walkOf}
 use Rattle.image.specs.Steps.{foundAfter}
 use Rattle.image.proofs.Walking.{full-grids, full-block, walk-end, walk-behind, walk-title, walk-fails, after-grids-step, after-block-step}
@@ -32,7 +33,7 @@ abbrev walk-below : ℕ → In 1 walk-kinds.ps
 walk-below t = and 1 walk-kinds.ps (falls 1 walk-kinds.ps _<_ μ-walk t) walk.Pre
 
 -- no data field may come any more
-none-left : (g b at left : ℕ) (s : List ℕ) → left ≡ 0 → walkOf 0 at s ≡ broken at → Broken at ≡ foundAfter g b (walkOf left at s)
+none-left : (g b at left : ℕ) (s : List ℕ) → left ≡ 0 → walkOf 0 at s ≡ broken at → Refused (Broken at) ≡ foundAfter g b (walkOf left at s)
 none-left g b at left s z e = sym (ap (λ (k : ℕ). foundAfter g b (walkOf k at s)) z ∙ ap (foundAfter g b) e)
 
 -- one may, and what is behind it was counted
@@ -103,8 +104,8 @@ module _ (t : ℕ) where
       let l = length-part 79 (now (a .rest)) in
       (omega (arith, l, n .before .before .before .before .pre .0), (omega (arith, l), omega (arith, l), omega (arith, l)))
 
-  add-end-3 : lts.Need-add-t28 (front-reads.Asked, front-reads.Learnt, walk-below t, walk.Post) (walk-at t) walk.Post
-  add-end-3 c =
+  add-behind : lts.Need-add-behind (front-reads.Asked, front-reads.Learnt, walk-below t, walk.Post) (walk-at t) walk.Post
+  add-behind c =
       let n = c .before in
       let s : List ℕ = now (n .before .before .before .before .args .rest) in
       let r = known s (sym (n .before .before .front .ensures .answer) ∙ n .enum-told2 .given .1) .room in
@@ -114,7 +115,7 @@ module _ (t : ℕ) where
   ended c =
       let n = c .before in
       let a = n .before .before .before .before .args in
-      let e : foundAfter (a .grids) (a .blocks) (sound []) ≡ Sound (a .grids) (a .blocks) = simp add-zero in
+      let e : foundAfter (a .grids) (a .blocks) (sound []) ≡ Done (a .grids) (a .blocks) = simp add-zero in
       sym (ap (foundAfter (a .grids) (a .blocks)) (walk-end (a .at) (now (a .rest)) (a .left)
       (sym (n .before .before .front .ensures .answer) ∙ n .enum-told2 .given .1) (omega arith)) ∙ e)
 
@@ -165,5 +166,5 @@ pub +walk-spec : {M : Type 1} → statement M
     close μ-walk λ t. lts.spec (front-reads.Asked, front-reads.Learnt, walk-below t, walk.Post) (walk-at t) walk.Post (λ c κs. search needs)
     (λ c. search needs) (full-of-grids t) (add-end t) (grids-room t) (part-end t) (λ c. search needs) (add-at t) (λ c. search needs) (add-grids t)
     (behind-grids t) (λ c. search needs) (full-of-blocks t) (λ c. search needs) (block-room t) (part-end-2 t) (λ c. search needs) (add-at-2 t)
-    (λ c. search needs) (add-blocks t) (behind-block t) (λ c. search needs) (ended t) (add-end-3 t) (λ c. search needs) (λ c. search needs)
+    (λ c. search needs) (add-blocks t) (behind-block t) (λ c. search needs) (ended t) (add-behind t) (λ c. search needs) (λ c. search needs)
     (walked-grids t) (walked-block t) (more-behind t) (second-title t) (rule-fails t)

@@ -1,32 +1,26 @@
 -- `image::check` meets its contract. Assumes nothing.
-use mathlib.Core.Path.{_≡_, sym, ap, _∙_}
+use mathlib.Core.Path.{sym, ap, _∙_}
 use mathlib.Core.List.{List}
-use Prim.Native.Nat.{ℕ, _+_, _≤_}
+use Prim.Native.Nat.{ℕ, _+_}
 use native.Mathlib.Omega.{arith}
-use lib.ListN.{length, drop}
+use lib.ListN.{drop}
 use denote.Ref.{now}
-use borrow.Author.Tests.{le-leb, lt-leb}
 use borrow.Author.Needs.{needs}
 use Rattle.words.proofs.Lists.{part-behind, length-part}
 use Rattle.fields.specs.Fields.{value}
 use Rattle.fields.proofs.Fields.{known}
-use Rattle.image.specs.declared.Outcome.the-variants.{Length, Broken}
-use Rattle.image.specs.Card.{Card, Found, walk, cardOf}
-use Rattle.image.specs.Calls.{byFound, judged, counts}
+use Rattle.image.specs.declared.CheckAnswer.the-variants.{Refused}
+use Rattle.image.specs.Card.{walk}
 use Rattle.image.specs.Steps.{foundAfter}
-use Rattle.image.proofs.Judged.{judged-long, judged-as}
+use Rattle.image.proofs.Checking.{checked-long, checked-found, gridsAndBlocks}
 use Rattle.image.proofs.Walking.{card-titled, card-none, after-whole}
 use Rattle.image.proofs.check.Statement.{statement}
 use Rattle.image.proofs.check.Tie as tie
 
--- within the length that is allowed, what is found decides
-within : (s : List ℕ) → length s ≤ 32768 → {x : Found Card} → cardOf s ≡ x → judged s Length Broken (λ c. counts (c .parts)) ≡ byFound Broken (λ (c : Card). counts (c .parts)) x
-within s l e = judged-as s Length Broken (λ c. counts (c .parts)) (le-leb (length s) 32768 l) e
-
 returns : tie.Need-returns
 returns c =
     let s : List ℕ = now (c .before .before .args .image) in
-    record { answer = sym (judged-long s Length Broken (λ c. counts (c .parts)) (lt-leb (length s) 32768 (omega arith))) }
+    record { answer = sym (checked-long s Refused gridsAndBlocks (omega arith)) }
 
 room : tie.Need-sub-walk
 room c =
@@ -55,14 +49,14 @@ returns-2 c =
     record {
       answer =
           c .walk .ensures ∙ ap (λ l. foundAfter 0 0 (walk 16 (3 + k) l)) (part-behind (3 + k) s)
-          ∙ sym (within s (omega arith) (card-titled s k e) ∙ after-whole (value s) (walk 16 (3 + k) (drop (3 + k) s)));
+          ∙ sym (checked-found s Refused gridsAndBlocks (omega arith) (card-titled s k e) ∙ after-whole (value s) (walk 16 (3 + k) (drop (3 + k) s)));
     }
 
 returns-3 : tie.Need-returns-3
 returns-3 c =
     let s : List ℕ = now (c .before .before .before .before .args .image) in
     let f = c .before .front in
-    record { answer = sym (within s (omega arith) (card-none s (f .result) (f .ensures .answer) (c .match .keys2))) }
+    record { answer = sym (checked-found s Refused gridsAndBlocks (omega arith) (card-none s (f .result) (f .ensures .answer) (c .match .keys2))) }
 
 pub check-spec : {M : Type 1} → statement M
 check-spec =

@@ -8,21 +8,21 @@ use Rattle.codes.specs.Verdict.{flipsOf, verdict}
 use Rattle.codes.proofs.Tally.{few-flips}
 use Rattle.grid_code.specs.Code.{gridCode}
 use Rattle.grid_code.proofs.Promises.{promised}
-use Rattle.grid.specs.Answer.{means}
+use Rattle.grid.specs.Answer.{verdictOf}
 use Rattle.grid.specs.declared.Verdict.{Verdict}
 use Rattle.value_read.specs.Shown.{dataShown, flipsShown, dataOfGrid, flipsOfGrid}
 use Rattle.value_read.proofs.show.Statement.{statement}
 use Rattle.value_read.proofs.show.Tie as tie
 
 -- what is shown in a case of the enum, where the verdict is of that case
-shown : (w : ℕ) (v u : Verdict) → v ≡ u → means v ≡ verdict gridCode w → (dataShown (means u) ≡ dataOfGrid w) × (flipsShown (means u) ≡ flipsOfGrid w)
-shown w v u e is = (ap (λ v. dataShown (means v)) (sym e) ∙ ap dataShown is, ap (λ v. flipsShown (means v)) (sym e) ∙ ap flipsShown is)
+shown : (w : ℕ) (v u : Verdict) → v ≡ u → verdictOf v ≡ verdict gridCode w → (dataShown (verdictOf u) ≡ dataOfGrid w) × (flipsShown (verdictOf u) ≡ flipsOfGrid w)
+shown w v u e is = (ap (λ v. dataShown (verdictOf v)) (sym e) ∙ ap dataShown is, ap (λ v. flipsShown (verdictOf v)) (sym e) ∙ ap flipsShown is)
 
 cast-t8 : tie.Need-cast-t8
 cast-t8 c =
     let few = few-flips gridCode (promised .verdicts) (joined 8 (c .before .before .before .before .args .grid .rows)) in
     let is = ap flipsOf (c .before .before .before .decode .ensures .answer) in
-    omega (arith, few, is, ap (λ v. flipsOf (means v)) (c .before .verdict2 .given .1))
+    omega (arith, few, is, ap (λ v. flipsOf (verdictOf v)) (c .before .verdict2 .given .1))
 
 returns : tie.Need-returns
 returns c = shown _ _ _ (c .before .verdict .given .1) (c .before .before .before .decode .ensures .answer)

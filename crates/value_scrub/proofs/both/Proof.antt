@@ -9,7 +9,7 @@ returns : tie.Need-returns
 returns c room =
     let clean = c .before .before .before in
     λ i. record {
-      grids = (clean .before .wrapping-add-u32 .ensures ∙ mod-eq-of-lt (room .grids)) i;
+      grids = (clean .before .wrapping-add-u32 .ensures ∙ mod-eq-of-lt (room .words)) i;
       clean = (clean .wrapping-add-u322 .ensures ∙ mod-eq-of-lt (room .clean)) i;
       mended = (c .before .before .wrapping-add-u323 .ensures ∙ mod-eq-of-lt (room .mended)) i;
       lost = (c .before .wrapping-add-u324 .ensures ∙ mod-eq-of-lt (room .lost)) i;

@@ -1,12 +1,13 @@
 -- `value_scrub::by_page` meets its contract. Assumes nothing.
-use mathlib.Core.Path.{ap, subst}
+use mathlib.Core.Path.{sym, ap, _∙_, subst}
 use Prim.Native.Nat.{_≤_}
 use native.Mathlib.Omega.{arith}
 use lib.ListN.{length}
 use denote.Ref.{now}
 use borrow.Author.Needs.{needs}
 use Rattle.words.proofs.Bytes.{length-words}
-use Rattle.page.specs.Answer.{numberOf}
+use Rattle.refusals.proofs.Promises.{nothing-given}
+use Rattle.page.specs.Answer.{means}
 use Rattle.page.specs.Calls.{Scrubbed}
 use Rattle.page.proofs.Promises.{promised}
 use Rattle.value_scrub.proofs.Scrubs.{page-written, page-kept}
@@ -42,7 +43,7 @@ returns-3 c =
     let s = x .before .before .before .before .before .before .before .before .before .before .before .before .before in
     let few : length (grids .last .1 .0) ≤ 512 =
     omega (arith, s .pre .1, ap length (grids .ensures (s .pre .0)), length-words 8 (length (now (s .args .page))) (now (s .args .value))) in
-    absurd (omega (arith, promised .accepted (grids .last .1 .0) (scrub .last .0) (scrub .result) few (scrub .ensures), ap numberOf (x .enum-told .given .1)))
+    nothing-given (x .enum-told .given .0 .0) (sym (ap means (x .enum-told .given .1)) ∙ promised .accepted (grids .last .1 .0) (scrub .last .0) (scrub .result) few (scrub .ensures))
 
 pub by-page-spec : {M : Type 1} → statement M
 by-page-spec =

@@ -5,47 +5,54 @@ use native.Mathlib.Omega.{arith}
 use denote.Ref.{now}
 use borrow.Author.Needs.{needs}
 use Rattle.words.specs.Bytes.{wordsIn}
+use Rattle.block.specs.declared.BlockAnswer.the-variants.{Done}
 use Rattle.value_scrub.specs.declared.Blocks.{Blocks}
 use Rattle.value_scrub.specs.Steps.{ScrubbedBlock}
-use Rattle.value_scrub.proofs.Scrubs.{ofAnswer, not-mended, words-written, words-kept}
+use Rattle.value_scrub.proofs.Scrubs.{ofAnswer, words-written, words-kept}
 use Rattle.value_scrub.proofs.by_words.Statement.{statement}
 use Rattle.value_scrub.proofs.by_words.Tie as tie
 
 returns : tie.Need-returns
 returns c =
-    let scrub = c .before .before .before .before .scrub in
-    let words = c .before .before .before .before .before .before .before .before .words in
-    let s = c .before .before .before .before .before .before .before .before .before .before .before .before .before in
-    let is = ap ofAnswer (c .enum-told .given .1) in
+    let at = c .before .before .before in
+    let m = at .before in
+    let scrub = m .before .before .before .scrub in
+    let words = m .before .before .before .before .before .before .before .words in
+    let s = m .before .before .before .before .before .before .before .before .before .before .before .before in
+    let is = ap ofAnswer (at .verdict .given .1 ∙ ap Done (c .enum-told .given .1)) in
     let taken = words .ensures (omega (arith, s .pre)) ∙ ap (λ (n : ℕ). wordsIn 2 n (now (s .args .value))) (s .pre .1) in
     subst (λ (r : Blocks). ScrubbedBlock (now (s .args .value)) r (now (s .args .value))) is
-    (words-kept (now (s .args .value)) (words .last .1 .0) (scrub .last .0) (scrub .result) (s .pre .0) (λ i. c .before .before .before .before .before .before .before .before .before .before .before .before .slice-known .given i .fits) taken
+    (words-kept (now (s .args .value)) (words .last .1 .0) (scrub .last .0) (scrub .result) (s .pre .0) (λ i. m .before .before .before .before .before .before .before .before .before .before .before .slice-known .given i .fits) taken
     (scrub .ensures) (ap (λ (b : Blocks). b .mended) is))
 
 returns-2 : tie.Need-returns-2
 returns-2 c =
     let x = c .before .before .before .before .before .before in
-    let scrub = x .before .before .before .before .scrub in
-    let words = x .before .before .before .before .before .before .before .before .words in
-    let s = x .before .before .before .before .before .before .before .before .before .before .before .before .before in
+    let at = x .before .before .before in
+    let m = at .before in
+    let scrub = m .before .before .before .scrub in
+    let words = m .before .before .before .before .before .before .before .words in
+    let s = m .before .before .before .before .before .before .before .before .before .before .before .before in
     let taken = words .ensures (omega (arith, s .pre)) ∙ ap (λ (n : ℕ). wordsIn 2 n (now (s .args .value))) (s .pre .1) in
-    subst (λ (r : Blocks). ScrubbedBlock (now (s .args .value)) r (c .before .before .put-words .last .0)) (ap ofAnswer (x .flips .given .1))
-    (words-written (now (s .args .value)) (words .last .1 .0) (scrub .last .0) (scrub .result) (s .pre .0) (λ i. x .before .before .before .before .before .before .before .before .before .before .before .before .slice-known .given i .fits) taken
+    subst (λ (r : Blocks). ScrubbedBlock (now (s .args .value)) r (c .before .before .put-words .last .0)) (ap ofAnswer (at .verdict .given .1 ∙ ap Done (x .verdict2 .given .1)))
+    (words-written (now (s .args .value)) (words .last .1 .0) (scrub .last .0) (scrub .result) (s .pre .0) (λ i. m .before .before .before .before .before .before .before .before .before .before .before .slice-known .given i .fits) taken
     (scrub .ensures) (c .before .before .put-words .last .0) (c .before .before .put-words .ensures))
 
 returns-3 : tie.Need-returns-3
 returns-3 c =
-    let scrub = c .before .before .before .scrub in
-    let words = c .before .before .before .before .before .before .before .words in
-    let s = c .before .before .before .before .before .before .before .before .before .before .before .before in
-    let is = not-mended (scrub .result) (c .match .keys3) in
+    let m = c .before in
+    let scrub = m .before .before .before .scrub in
+    let words = m .before .before .before .before .before .before .before .words in
+    let s = m .before .before .before .before .before .before .before .before .before .before .before .before in
+    let is = ap ofAnswer (c .enum-told2 .given .1) in
     let taken = words .ensures (omega (arith, s .pre)) ∙ ap (λ (n : ℕ). wordsIn 2 n (now (s .args .value))) (s .pre .1) in
     subst (λ (r : Blocks). ScrubbedBlock (now (s .args .value)) r (now (s .args .value))) is
-    (words-kept (now (s .args .value)) (words .last .1 .0) (scrub .last .0) (scrub .result) (s .pre .0) (λ i. c .before .before .before .before .before .before .before .before .before .before .before .slice-known .given i .fits) taken
+    (words-kept (now (s .args .value)) (words .last .1 .0) (scrub .last .0) (scrub .result) (s .pre .0) (λ i. m .before .before .before .before .before .before .before .before .before .before .before .slice-known .given i .fits) taken
     (scrub .ensures) (ap (λ (b : Blocks). b .mended) is))
 
 pub by-words-spec : {M : Type 1} → statement M
 by-words-spec =
     tie.close
-    (tie.spec (λ c κs. search needs) (λ c κs. search needs) (λ c. search needs) (λ c. search needs) (λ c κs. search needs) (λ c. search needs)
-    (λ c. search needs) returns (λ c. search needs) (λ c. search needs) returns-2 (λ c. search needs) (λ c. search needs) returns-3)
+    (tie.spec (λ c κs. search needs) (λ c κs. search needs) (λ c. search needs) (λ c. search needs) (λ c. search needs) (λ c κs. search needs)
+    (λ c. search needs) (λ c. search needs) (λ c. search needs) returns (λ c. search needs) (λ c. search needs) returns-2 (λ c. search needs)
+    (λ c. search needs) returns-3)

@@ -5,21 +5,21 @@ use native.Mathlib.Omega.{arith}
 use borrow.Author.Needs.{needs}
 use Rattle.codes.specs.Verdict.{flipsOf}
 use Rattle.codes.specs.Tally.{isClean, isMended, isLost}
-use Rattle.grid.specs.Answer.{means}
+use Rattle.grid.specs.Answer.{verdictOf}
 use Rattle.page.proofs.Tally.counted.Statement.{statement}
 use Rattle.page.proofs.Tally.counted.Tie as tie
 
 add-next-2 : tie.Need-add-next-2
-add-next-2 c = omega (arith, ap (λ v. isClean (means v)) (c .before .enum-told .given .1))
+add-next-2 c = omega (arith, ap (λ v. isClean (verdictOf v)) (c .before .enum-told .given .1))
 
 add-next-3 : tie.Need-add-next-3
-add-next-3 c = omega (arith, ap (λ v. isMended (means v)) (c .before .before .verdict .given .1))
+add-next-3 c = omega (arith, ap (λ v. isMended (verdictOf v)) (c .before .before .verdict .given .1))
 
 add-next-4 : tie.Need-add-next-4
-add-next-4 c = omega (arith, ap (λ v. flipsOf (means v)) (c .before .before .before .verdict .given .1))
+add-next-4 c = omega (arith, ap (λ v. flipsOf (verdictOf v)) (c .before .before .before .verdict .given .1))
 
 add-next-5 : tie.Need-add-next-5
-add-next-5 c = omega (arith, ap (λ v. isLost (means v)) (c .before .enum-told2 .given .1))
+add-next-5 c = omega (arith, ap (λ v. isLost (verdictOf v)) (c .before .enum-told2 .given .1))
 
 returns : tie.Need-returns
 returns c = simp (c .before .enum-told .given .1, add-zero)

@@ -2,7 +2,7 @@
 use mathlib.Core.Path.{_≡_, refl, sym, ap, _∙_, subst}
 use mathlib.Core.Logic.{⊎-elim}
 use mathlib.Core.List.{List, [], _∷_, _++_}
-use Prim.Native.Nat.{ℕ, zero, suc, _+_, _-_, _*_, _/_, _≤_}
+use Prim.Native.Nat.{ℕ, zero, suc, _+_, _*_, _/_, _≤_}
 use native.Mathlib.Decide.{ℕ-discrete}
 use native.Mathlib.Omega.{arith}
 use lib.ListN.{length, take, drop, length-append, length-drop}
@@ -16,26 +16,17 @@ use Rattle.fields.specs.declared.Field.the-variants.{Title, Grids, Block, End, 
 use Rattle.fields.specs.Fields.{size, value, fieldOf}
 use Rattle.fields.proofs.Field.{the-type}
 use Rattle.fields.proofs.Fields.{known}
 use Rattle.image.specs.Card.{Part, Found, sound, broken, gridsIn, blocksIn, gridsAt, blockAt, before, walk, head}
 use Rattle.image.proofs.Walking.{walk-grids, walk-block, full-grids, full-block, walk-end, walk-behind, walk-title, walk-fails}
 use Rattle.image.proofs.Shape.{split}
-use Rattle.values.specs.Steps.{Walks}
+use Rattle.image.specs.Steps.{Walks}
 
 abbrev pub less : ℕ → ℕ
 less zero = zero
 less (suc n) = n
 
-isSound : {A : Type 0} → Found A → ℕ
-isSound (sound a) = 1
-isSound (broken at) = 0
-
-partsOf : Found (List Part) → List Part
-partsOf (sound ps) = ps
-partsOf (broken at) = []
-
 pub never : {A X : Type 0} {at : ℕ} {a : A} → broken at ≡ sound a → X
-unfolding isSound
-never e = absurd (omega (arith, ap isSound e))
+never e = let z : _≡_ {A = ℕ} 0 1 = cc in absurd (omega arith)
 
 -- a data field p in front, and what was found behind it
 pub record Front (ps : List Part) (p : Part) (left next : ℕ) (rest : List ℕ) : Type 0 where
@@ -44,11 +35,10 @@ pub record Front (ps : List Part) (p : Part) (left next : ℕ) (rest : List ℕ)
   pub found : walk left next rest ≡ sound behind
 
 fronted : (ps : List Part) (p : Part) (left next : ℕ) (rest : List ℕ) → before p (walk left next rest) ≡ sound ps → Front ps p left next rest
-unfolding partsOf
 fronted ps p left next rest e = go (walk left next rest) refl e
   where
     go : (x : Found (List Part)) → walk left next rest ≡ x → before p x ≡ sound ps → Front ps p left next rest
-    go (sound qs) f e = record { behind = qs; is = sym (ap partsOf e); found = f }
+    go (sound qs) f e = record { behind = qs; is = cc; found = f }
     go (broken k) f e = never e
 
 module _ (at : ℕ) (s : List ℕ) (ps : List Part) where
@@ -62,11 +52,10 @@ module _ (at : ℕ) (s : List ℕ) (ps : List Part) where
   block-front (suc left) f e = fronted ps (blockAt (value s)) left (at + 79) (drop 79 s) (sym (walk-block at s left f) ∙ e)
 
   ended : (left : ℕ) → fieldOf s ≡ End → walk left at s ≡ sound ps → (ps ≡ []) × (length s ≡ 3)
-  unfolding partsOf
   ended left f e = go (ℕ-discrete (length s) 3)
     where
       go : Dec (length s ≡ 3) → (ps ≡ []) × (length s ≡ 3)
-      go (yes l) = (ap partsOf (sym e ∙ walk-end at s left f l), l)
+      go (yes l) = (cc (walk-end at s left f l), l)
       go (no l) = never (sym (walk-behind at s left f l) ∙ e)
 
   -- .. as the last arm of a match has it: nothing but the end is left
