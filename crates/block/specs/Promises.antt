@@ -73,7 +73,7 @@ pub record ScrubPromises : Type 0 where
   pub undone : (d p : ℕ) (exit : List ℕ) (r : BlockAnswer) → d < 2 ^ 512 → p < 2 ^ 608 → ones p ≤ blockCode .radius
       → Scrubbed (digits 16 38 (bitXor (codeword d) p)) r exit
       → (means r exit ≡ gives (answered d (ones p))) × (exit ≡ digits 16 38 (codeword d))
-  -- A second scrub finds what it should, and changes nothing.
+  -- A second scrub finds clean what was clean or mended, and lost what was lost, with no flips, and changes nothing.
   pub again : (ws once twice : List ℕ) (r s : BlockAnswer) → length ws ≡ 38 → Below 16 ws → Scrubbed ws r once → Scrubbed once s twice
       → (v : Verdict) × (u : Verdict) × (means r once ≡ replied LostBlock v) × (means s twice ≡ replied LostBlock u)
       × Again (tallyOfOne v) (tallyOfOne u) × (twice ≡ once)

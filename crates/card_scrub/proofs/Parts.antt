@@ -3,16 +3,18 @@ use mathlib.Core.Path.{_≡_, sym, ap, ap₂, _∙_, subst}
 use mathlib.Core.List.{List, [], _∷_, _++_, map, append-assoc, append-nil}
 use Prim.Native.Nat.{ℕ, _+_, _-_, _*_, _/_, _%_, _≤_}
 use native.Mathlib.Omega.{arith}
+use lib.Dec.{lit<}
 use lib.ListN.{length, take, drop, length-append, length-map, length-drop, drop-of-length-le}
 use lib.Seq.{take-at, drop-at, drop-drop, length-take-le}
 use Rattle.words.specs.Digits.{digits, joined, Below}
 use Rattle.words.specs.Bytes.{wordsIn, bytesOf}
 use Rattle.words.proofs.Lists.{part-behind}
 use Rattle.words.proofs.Bytes.{length-words}
-use Rattle.codes.specs.Verdict.{scrubbed, flipsOf}
-use Rattle.codes.specs.Tally.{isClean, isMended, isLost, TallyPromises}
-use Rattle.codes.proofs.Tally.{sum-append, tallies}
+use Rattle.codes.specs.Verdict.{scrubbed}
+use Rattle.codes.specs.Tally.{TallyPromises}
+use Rattle.codes.proofs.Tally.{tally-append, small-sum, tallies}
 use Rattle.grid_code.specs.Code.{gridCode}
+use Rattle.grid_code.proofs.Promises as grid
 use Rattle.page.specs.declared.Tally.{Tally}
 use Rattle.page.specs.Calls.{gridTally}
 use Rattle.block_code.specs.Code.{blockCode}
@@ -26,9 +28,9 @@ use Rattle.image.specs.Steps.{Walks}
 use Rattle.image.proofs.Walks.{less, grids-front, block-front, bounded}
 use Rattle.image.proofs.Checking.{Begins}
 use Rattle.value_scrub.specs.declared.Blocks.{Blocks}
-use Rattle.value_scrub.specs.Tally.{blockTally}
+use Rattle.value_scrub.specs.Tally.{ofBlocks, blockTally}
 use Rattle.value_scrub.specs.Steps.{bothGrids, RoomyGrids, ScrubbedGrids, ScrubbedBlock}
-use Rattle.value_scrub.proofs.Scrubs.{tally-two, grids-few}
+use Rattle.value_scrub.proofs.Scrubs.{tally-two}
 use Rattle.card_scrub.specs.declared.Tallies.{Tallies}
 use Rattle.card_scrub.specs.Calls.{scrubbedPart, scrubbedCard, talliesOf}
 use Rattle.card_scrub.specs.Steps.{withBlocks, RoomyBlocks, ScrubbedFields}
@@ -114,13 +116,7 @@ module _ (s part v e : List ℕ) (n : ℕ) (r : Tally) (t : Tallies) (b : Below 
 blocks-two : (w : ℕ) (bs : List ℕ) (t : Tallies) → t .blocks ≡ blockTally bs → withBlocks (blockTally (w ∷ [])) t .blocks ≡ blockTally (w ∷ bs)
 blocks-two w bs t e =
     (λ i. withBlocks (blockTally (w ∷ [])) (record { grids = t .grids; blocks = e i }) .blocks)
-    ∙ sym (λ i. record {
-      blocks = length-append (w ∷ []) bs i;
-      clean = sum-append blockCode isClean (w ∷ []) bs i;
-      mended = sum-append blockCode isMended (w ∷ []) bs i;
-      lost = sum-append blockCode isLost (w ∷ []) bs i;
-      flips = sum-append blockCode flipsOf (w ∷ []) bs i;
-    })
+    ∙ sym (ap ofBlocks (tally-append blockCode (w ∷ []) bs))
 
 module _ (s part v e : List ℕ) (r : Blocks) (t : Tallies) (b : Below 8 s) (f : fieldOf s ≡ Block) (is : part ≡ value s)
     (here : ScrubbedBlock part r v) (there : ScrubbedFields (drop 79 s) t e) where
@@ -154,18 +150,6 @@ module _ (s part v e : List ℕ) (r : Blocks) (t : Tallies) (b : Below 8 s) (f :
 pub block-laws : TallyPromises blockCode
 block-laws = tallies blockCode (promised .verdicts)
 
-blocks-few : (ws vs : List ℕ) → length ws ≤ 32768 → length vs ≤ 32768 → RoomyBlocks (blockTally ws) (blockTally vs)
-blocks-few ws vs p q =
-    let few = block-laws .flips in
-    let all = block-laws .all in
-    record {
-      words = omega arith;
-      clean = omega (arith, all ws, all vs);
-      mended = omega (arith, all ws, all vs);
-      lost = omega (arith, all ws, all vs);
-      flips = omega (arith, few ws, few vs);
-    }
-
 pub grids-together : (s part v e : List ℕ) (n : ℕ) (r : Tally) (t : Tallies) → Walks s → fieldOf s ≡ Grids n → part ≡ value s
     → ScrubbedGrids part r v → ScrubbedFields (drop (3 + n) s) t e → RoomyGrids r (t .grids)
 grids-together s part v e n r t w f is here there =
@@ -177,8 +161,8 @@ grids-together s part v e n r t w f is here there =
     let ws = wordsIn 8 (length part / 8) part in
     subst (λ r. RoomyGrids r (t .grids)) (sym (here .answer))
     (subst (λ t. RoomyGrids (gridTally ws) (t .grids)) (sym rest)
-    (grids-few 4096 ws (gridsIn (front .behind)) (omega (arith, long, length-words 8 (length part / 8) part))
-    (omega (arith, few, length-drop (3 + n) s, w .few)) (omega arith)))
+    (small-sum gridCode (grid.promised .verdicts) 4096 ws (gridsIn (front .behind)) (omega (arith, long, length-words 8 (length part / 8) part))
+    (omega (arith, few, length-drop (3 + n) s, w .few)) (lit< tt) (lit< tt)))
 
 pub blocks-together : (s part v e : List ℕ) (r : Blocks) (t : Tallies) → Walks s → fieldOf s ≡ Block
     → ScrubbedBlock part r v → ScrubbedFields (drop 79 s) t e → RoomyBlocks r (t .blocks)
@@ -189,7 +173,8 @@ blocks-together s part v e r t w f here there =
     let word = joined 16 (wordsIn 2 38 part) in
     subst (λ r. RoomyBlocks r (t .blocks)) (sym (here .answer))
     (subst (λ t. RoomyBlocks (blockTally (word ∷ [])) (t .blocks)) (sym rest)
-    (blocks-few (word ∷ []) (blocksIn (front .behind)) (omega arith) (omega (arith, few, length-drop 79 s, w .few))))
+    (small-sum blockCode (promised .verdicts) 32768 (word ∷ []) (blocksIn (front .behind)) (omega arith)
+    (omega (arith, few, length-drop 79 s, w .few)) (lit< tt) (lit< tt)))
 
 -- ---- the whole image
 

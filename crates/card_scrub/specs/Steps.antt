@@ -2,7 +2,7 @@
 use mathlib.Core.Path.{_≡_}
 use mathlib.Core.List.{List, _++_, map}
 use Prim.Native.Nat.{ℕ}
-use Rattle.codes.specs.Tally.{plus, Small}
+use Rattle.codes.specs.Steps.{plus, Small}
 use Rattle.image.specs.Card.{Part, sound, walk, head, partsBytes}
 use Rattle.value_scrub.specs.declared.Blocks.{Blocks}
 use Rattle.value_scrub.specs.Tally.{ofBlocks, tallyIn}

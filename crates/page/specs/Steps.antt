@@ -1,6 +1,7 @@
 -- What the private steps of a scrub compute, so that their contracts can say it. No promise to a caller cites this file. Assumes nothing.
 use Rattle.codes.specs.Verdict.{Verdict}
-use Rattle.codes.specs.Tally.{tallyOfOne, plus, Small}
+use Rattle.codes.specs.Tally.{tallyOfOne}
+use Rattle.codes.specs.Steps.{plus, Small}
 use Rattle.page.specs.declared.Tally.{Tally}
 use Rattle.page.specs.Answer.{tallyIn}
 use Rattle.page.specs.Calls.{ofGrids}

@@ -2,8 +2,9 @@
 use mathlib.Core.Path.{_≡_, refl, sym, ap, ap₂, _∙_, subst}
 use mathlib.Core.Bool.{Bool}
 use mathlib.Core.List.{List, [], _∷_, _++_, map, map-append, append-nil}
-use Prim.Native.Nat.{ℕ, _+_, _-_, _*_, _/_, _%_, _^_, _≤_, _<_}
+use Prim.Native.Nat.{ℕ, _+_, _-_, _*_, _/_, _%_, _≤_, _<_}
 use native.Mathlib.Omega.{arith}
+use lib.Dec.{lit<}
 use lib.ListN.{length, take, drop, length-append, length-map, length-drop, take-append-drop, drop-of-length-le}
 use lib.Seq.{take-at, drop-at, length-take-le}
 use borrow.Author.Tests.{eq-eqb}
@@ -14,15 +15,15 @@ use Rattle.words.proofs.Digits.{length-digits, digits-joined}
 use Rattle.words.proofs.Lists.{part-behind}
 use Rattle.words.proofs.Bytes.{length-words, words-two, bytes-append, bytes-words, words-below}
 use Rattle.refusals.specs.declared.Refusal.the-variants.{Length}
-use Rattle.codes.specs.Verdict.{Verdict, clean, mended, lost, verdict, scrubbed, flipsOf}
-use Rattle.codes.specs.Tally.{isClean, isMended, isLost, sumBy, tallyOfOne}
-use Rattle.codes.proofs.Tally.{unmended, sum-append, tallies}
+use Rattle.codes.specs.Verdict.{Verdict, clean, mended, lost, verdict, scrubbed}
+use Rattle.codes.specs.Tally.{isMended, sumBy, tallyOfOne}
+use Rattle.codes.proofs.Tally.{unmended, tally-append, small-sum, tallies}
 use Rattle.grid_code.specs.Code.{gridCode}
 use Rattle.grid_code.proofs.Promises as grid
 use Rattle.page.specs.declared.Tally.{Tally}
 use Rattle.page.specs.declared.PageAnswer.the-variants.{Done as PageDone}
-use Rattle.page.specs.Calls.{gridTally, Scrubbed}
-use Rattle.page.proofs.Promises.{laws, was-done}
+use Rattle.page.specs.Calls.{ofGrids, gridTally, Scrubbed}
+use Rattle.page.proofs.Promises.{was-done}
 use Rattle.block_code.specs.Code.{blockCode}
 use Rattle.block_code.proofs.Promises as blocks
 use Rattle.block.specs.Answer.{answerOf}
@@ -77,13 +78,7 @@ module _ (value page after : List ℕ) (n : ℕ) (t : Tally) (fits : length valu
 -- ---- two parts of a value
 
 pub tally-two : (a b : List ℕ) → gridTally (a ++ b) ≡ bothGrids (gridTally a) (gridTally b)
-tally-two a b = λ i. record {
-  grids = length-append a b i;
-  clean = sum-append gridCode isClean a b i;
-  mended = sum-append gridCode isMended a b i;
-  lost = sum-append gridCode isLost a b i;
-  flips = sum-append gridCode flipsOf a b i;
-}
+tally-two a b = ap ofGrids (tally-append gridCode a b)
 
 -- both scrubbed, each by itself
 pub grids-two : (a b a′ b′ : List ℕ) (r s : Tally) → length a % 8 ≡ 0 → length b % 8 ≡ 0
@@ -103,23 +98,11 @@ grids-two a b a′ b′ r s p q x y =
     }
 
 -- the numbers of a tally are small
-pub grids-few : (k : ℕ) (ws vs : List ℕ) → length ws ≤ k → length vs ≤ k → 14 * k < 2 ^ 32 → RoomyGrids (gridTally ws) (gridTally vs)
-grids-few k ws vs p q h =
-    let few = laws .flips in
-    let all = laws .all in
-    record {
-      words = omega arith;
-      clean = omega (arith, all ws, all vs);
-      mended = omega (arith, all ws, all vs);
-      lost = omega (arith, all ws, all vs);
-      flips = omega (arith, few ws, few vs);
-    }
-
 pub grids-roomy : (a b a′ b′ : List ℕ) (r s : Tally) → length a ≤ 32768 → length b ≤ 32768 → ScrubbedGrids a r a′ → ScrubbedGrids b s b′
     → RoomyGrids r s
 grids-roomy a b a′ b′ r s l m x y =
-    let few = grids-few 4096 (wordsIn 8 (length a / 8) a) (wordsIn 8 (length b / 8) b) (omega (arith, length-words 8 (length a / 8) a))
-    (omega (arith, length-words 8 (length b / 8) b)) (omega arith) in
+    let few = small-sum gridCode (grid.promised .verdicts) 4096 (wordsIn 8 (length a / 8) a) (wordsIn 8 (length b / 8) b) (omega (arith, length-words 8 (length a / 8) a))
+    (omega (arith, length-words 8 (length b / 8) b)) (lit< tt) (lit< tt) in
     subst (λ r. RoomyGrids r s) (sym (x .answer)) (subst (RoomyGrids (gridTally (wordsIn 8 (length a / 8) a))) (sym (y .answer)) few)
 
 -- the first n bytes, and what is lent behind them

@@ -6,7 +6,7 @@ use lib.ListN.{length}
 use Rattle.words.specs.Digits.{digits, joined}
 use Rattle.words.specs.Bytes.{wordsIn, bytesOf}
 use Rattle.codes.specs.Verdict.{scrubbed}
-use Rattle.codes.specs.Tally.{plus, Small}
+use Rattle.codes.specs.Steps.{plus, Small}
 use Rattle.grid_code.specs.Code.{gridCode}
 use Rattle.page.specs.declared.Tally.{Tally}
 use Rattle.page.specs.Answer.{tallyIn}
