@@ -3,3 +3,4 @@ pub mod Shape
 pub mod Walks
 pub mod Checking
 pub mod Promises
+pub mod Stepping
