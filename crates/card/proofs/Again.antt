@@ -11,8 +11,8 @@ use Rattle.words.proofs.Digits.{length-digits}
 use Rattle.words.proofs.Lists.{map-twice}
 use Rattle.words.proofs.Bytes.{length-bytes, below-map}
 use Rattle.codes.specs.Verdict.{scrubbed}
-use Rattle.codes.specs.Tally.{tallyOf, Again}
-use Rattle.codes.proofs.Tally.{scrubbed-lt}
+use Rattle.codes.specs.Tally.{tallyOf, Again, TallyPromises}
+use Rattle.codes.proofs.Tally.{scrubbed-lt, tallies}
 use Rattle.grid_code.specs.Code.{gridCode}
 use Rattle.grid_code.proofs.Promises as grid
 use Rattle.page.proofs.Promises.{laws}
@@ -21,10 +21,12 @@ use Rattle.block_code.proofs.Promises as blocks
 use Rattle.image.specs.Card.{Part, grids, block, Card, gridsIn, blocksIn, head, partBytes, partsBytes, frontOf, imageOf}
 use Rattle.image.specs.Promises.{ProperPart, AllProper, Proper}
 use Rattle.card_scrub.specs.Calls.{scrubbedPart, scrubbedCard}
-use Rattle.card_scrub.proofs.Parts.{block-laws}
 use Rattle.card.specs.Promises.{SameFrame}
 
 -- ---- its grids and its blocks
+
+pub block-laws : TallyPromises blockCode
+block-laws = tallies blockCode (blocks.promised .verdicts)
 
 grids-scrubbed : (ps : List Part) → gridsIn (map scrubbedPart ps) ≡ map (scrubbed gridCode) (gridsIn ps)
 grids-scrubbed [] = refl

@@ -26,7 +26,6 @@ use Rattle.card_scrub.specs.declared.ScrubAnswer.{ScrubAnswer}
 use Rattle.card_scrub.specs.declared.ScrubAnswer.the-variants.{Refused as ScrubRefused}
 use Rattle.card_scrub.specs.Answer.{BothTallies, bothTallies, means as scrubMeans}
 use Rattle.card_scrub.specs.Calls.{scrubbedPart, scrubbedCard, Scrubbed}
-use Rattle.card_scrub.proofs.Parts.{block-laws}
 use Rattle.card_write.specs.declared.WriteAnswer.{WriteAnswer}
 use Rattle.card_write.specs.Answer.{means as writeMeans}
 use Rattle.card_write.specs.Calls.{cardOn, cardWith, sizeWritten, lengthsAllowed, Wrote}
@@ -35,7 +34,7 @@ use Rattle.card_write.proofs.Writes.{no-image, image-written, same, not-allowed
 use Rattle.card_read.specs.Calls.{Read}
 use Rattle.card_read.proofs.Readings as read
 use Rattle.card.specs.Promises.{ScrubPromises, Switched, WritePromises, OneOutcome}
-use Rattle.card.proofs.Again.{same-frame, second, still-proper, same-length, twice}
+use Rattle.card.proofs.Again.{block-laws, same-frame, second, still-proper, same-length, twice}
 use Rattle.card.proofs.Switches.{put-right, none-switched, no-flips, length-on, lengths, few, found-on, read-on}
 
 -- ---- scrub

@@ -2,13 +2,13 @@
 use mathlib.Core.Path.{_≡_, sym, ap, ap₂, _∙_}
 use mathlib.Core.Bool.{Bool, true, false}
 use mathlib.Core.List.{List, _++_, map, map-append}
-use Prim.Native.Nat.{ℕ, _+_, _-_, _*_, _/_, _≤_, _<_}
+use Prim.Native.Nat.{ℕ, _+_, _*_, _/_, _≤_, _<_}
 use native.Mathlib.Omega.{arith}
 use lib.ListN.{length, take, drop, length-append, length-map}
 use borrow.Author.Tests.{le-leb, lt-leb}
 use Rattle.words.specs.Word.{choose}
 use Rattle.words.specs.Bytes.{wordsIn, laid}
-use Rattle.words.proofs.Bytes.{length-words, laid-part}
+use Rattle.words.proofs.Bytes.{length-words, laid-behind}
 use Rattle.refusals.specs.declared.Refusal.{Refusal}
 use Rattle.refusals.specs.declared.Refusal.the-variants.{Room}
 use Rattle.fields.specs.declared.Field.the-variants.{Grids}
@@ -18,6 +18,7 @@ use Rattle.image.specs.Card.{Part, Card, sound, mostBytes, gridsIn, gridsAt, ca
 use Rattle.image.proofs.Walks.{Front}
 use Rattle.image.proofs.Checking.{checked-found}
 use Rattle.value_read.specs.Shown.{dataOfGrids, flipsOfGrids}
+use Rattle.value_read.specs.Steps.{gridsOf}
 use Rattle.card_read.specs.declared.ReadAnswer.{ReadAnswer}
 use Rattle.card_read.specs.declared.ReadAnswer.the-variants.{Done, Refused}
 use Rattle.card_read.specs.Calls.{roomFor, readAs, Read}
@@ -37,17 +38,15 @@ module _ (s : List ℕ) (ps : List Part) (n left next : ℕ) (f : fieldOf s ≡ 
   whole-grids = omega (arith, grids-size n (known s f .1))
 
   -- what is laid behind the first of them
-  pub read-on : (g : ℕ → ℕ) (part before t ys : List ℕ) → part ≡ value s → n / 8 ≤ length before
-      → t ≡ laid (map g (wordsIn 8 (length part / 8) part)) before
-      → ys ≡ laid (map g (gridsIn (front .behind))) (take (length t - n / 8) (drop (n / 8) t))
-      → take (n / 8) t ++ (ys ++ drop (length t - n / 8) (drop (n / 8) t)) ≡ laid (map g (gridsIn ps)) before
+  pub read-on : (g : ℕ → ℕ) (part before t ys : List ℕ) → part ≡ value s → t ≡ laid (map g (gridsOf part)) before
+      → ys ≡ laid (map g (gridsIn (front .behind))) (drop (n / 8) t) → take (n / 8) t ++ ys ≡ laid (map g (gridsIn ps)) before
   unfolding ws
-  read-on g part before t ys is room e h =
+  read-on g part before t ys is e h =
       let st = known s f .0 in
       let l : length part / 8 ≡ n / 8 = omega (arith, ap length is, length-value s (omega (arith, st .size-is, st .room)), st .size-is) in
-      let words : wordsIn 8 (length part / 8) part ≡ ws = ap₂ (λ (k : ℕ) (p : List ℕ). wordsIn 8 k p) l is in
-      laid-part (map g ws) before (n / 8) (length-map ws g ∙ length-words 8 (n / 8) (value s)) t (map g (gridsIn (front .behind))) ys
-      (e ∙ ap (λ l. laid (map g l) before) words) room h
+      let words : gridsOf part ≡ ws = ap₂ (λ (k : ℕ) (p : List ℕ). wordsIn 8 k p) l is in
+      laid-behind (map g ws) before (n / 8) (length-map ws g ∙ length-words 8 (n / 8) (value s)) t (map g (gridsIn (front .behind))) ys
+      (e ∙ ap (λ l. laid (map g l) before) words) h
       ∙ ap (λ l. laid l before) (sym (map-append g ws (gridsIn (front .behind))) ∙ ap (λ ps. map g (gridsIn ps)) (sym (front .is)))
 
 -- ---- the room

@@ -5,7 +5,7 @@
 // specs/Calls.antt says what the call answers and leaves, and specs/Answer.antt what that is in document 01's terms. What is shown of a
 // grid is in the crate value_read.
 ghost use Rattle.card_read.specs.Calls.{Read};
-ghost use Rattle.card_read.specs.Steps.{ReadsGrids, ReadsFields};
+ghost use Rattle.card_read.specs.Steps.{ReadsGrids, ReadsFields, ReadFirst};
 use fields::BLOCK;
 use fields::Field;
 use fields::HEAD;
@@ -18,23 +18,48 @@ pub enum ReadAnswer {
     Refused(Refusal),
 }
 
-// The grids of the data fields at the front of a slice, up to the end field.
+// What stands at the front of some bytes: a data field, with its bytes, head and value, and its grids; or the end.
+enum First {
+    Data { size: usize, grids: usize },
+    End,
+}
+
+// The field at the front, and its grids read to the front of two slices.
+fn read_first(rest: &[u8], numbers: &mut [u16], flips: &mut [u8]) -> First
+    requires { ⌜ ReadsFields (now rest) (now numbers) (now flips) ⌝ }
+    ensures { λ r. ⌜ ReadFirst (now (rest .entry)) (now (numbers .entry)) (now (flips .entry)) r (now (numbers .exit)) (now (flips .exit)) ⌝ }
+{
+    match fields::front(rest) {
+        Field::Grids(n) => {
+            let size = HEAD + n;
+            value_read::grids(&rest[HEAD..size], numbers, flips);
+            First::Data { size, grids: n / 8 }
+        }
+        Field::Block => First::Data {
+            size: HEAD + BLOCK,
+            grids: 0,
+        },
+        _ => First::End,
+    }
+}
+
+// The grids of the data fields at the front of some bytes, up to the end field.
 fn read_fields(rest: &[u8], numbers: &mut [u16], flips: &mut [u8])
     requires { ⌜ ReadsFields (now rest) (now numbers) (now flips) ⌝ }
     ensures { λ r. ⌜ ReadsGrids (now (rest .entry)) (now (numbers .entry)) (now (flips .entry)) (now (numbers .exit)) (now (flips .exit)) ⌝ }
 {
-    match fields::front(rest) {
-        Field::Grids(n) => {
-            let end = HEAD + n;
-            let k = n / 8;
-            value_read::grids(&rest[HEAD..end], numbers, flips);
-            read_fields(&rest[end..], &mut numbers[k..], &mut flips[k..]);
+    let mut at: usize = 0;
+    let mut k: usize = 0;
+    loop {
+        match read_first(&rest[at..], &mut numbers[k..], &mut flips[k..]) {
+            First::Data { size, grids } => {
+                at = at + size;
+                k = k + grids;
+            }
+            First::End => {
+                return;
+            }
         }
-        Field::Block => {
-            let end = HEAD + BLOCK;
-            read_fields(&rest[end..], numbers, flips);
-        }
-        _ => {}
     }
 }
 

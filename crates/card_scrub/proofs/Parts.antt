@@ -1,39 +1,40 @@
 -- A data field scrubbed, and the fields behind it: what is counted, and what stands there afterwards. Assumes nothing.
-use mathlib.Core.Path.{_≡_, sym, ap, ap₂, _∙_, subst}
+use mathlib.Core.Path.{_≡_, refl, sym, ap, ap₂, _∙_}
 use mathlib.Core.List.{List, [], _∷_, _++_, map, append-assoc, append-nil}
-use Prim.Native.Nat.{ℕ, _+_, _-_, _*_, _/_, _%_, _≤_}
+use Prim.Native.Nat.{ℕ, _+_, _-_, _*_, _/_, _%_, _^_, _≤_}
+use native.Mathlib.Nat.{mod-eq-of-lt}
 use native.Mathlib.Omega.{arith}
 use lib.Dec.{lit<}
 use lib.ListN.{length, take, drop, length-append, length-map, length-drop, drop-of-length-le}
 use lib.Seq.{take-at, drop-at, drop-drop, length-take-le}
 use Rattle.words.specs.Digits.{digits, joined, Below}
 use Rattle.words.specs.Bytes.{wordsIn, bytesOf}
-use Rattle.words.proofs.Lists.{part-behind}
 use Rattle.words.proofs.Bytes.{length-words}
 use Rattle.codes.specs.Verdict.{scrubbed}
-use Rattle.codes.specs.Tally.{TallyPromises}
-use Rattle.codes.proofs.Tally.{tally-append, small-sum, tallies}
+use Rattle.codes.specs.Tally.{sumBy, Tally as Counted, tallyOf}
+use Rattle.codes.specs.Steps.{plus, Small}
+use Rattle.codes.proofs.Tally.{tally-append, small-sum}
 use Rattle.grid_code.specs.Code.{gridCode}
 use Rattle.grid_code.proofs.Promises as grid
 use Rattle.page.specs.declared.Tally.{Tally}
-use Rattle.page.specs.Calls.{gridTally}
+use Rattle.page.specs.Answer.{tallyIn as gridsTally}
+use Rattle.page.specs.Calls.{ofGrids, gridTally, NoGrids}
 use Rattle.block_code.specs.Code.{blockCode}
 use Rattle.block_code.proofs.Promises.{promised}
 use Rattle.fields.specs.declared.Field.the-variants.{Grids, Block}
 use Rattle.fields.specs.Fields.{value, fieldOf}
 use Rattle.fields.proofs.Fields.{Stands, known, length-value, grids-size}
-use Rattle.image.specs.Card.{Card, gridsIn, blocksIn, head, partBytes, partsBytes, frontOf, imageOf}
+use Rattle.image.specs.Card.{Part, grids, block, Card, sound, gridsIn, blocksIn, gridsAt, blockAt, walk, head, partBytes, partsBytes, frontOf, imageOf}
 use Rattle.image.proofs.Shape.{split}
 use Rattle.image.specs.Steps.{Walks}
-use Rattle.image.proofs.Walks.{less, grids-front, block-front, bounded}
+use Rattle.image.proofs.Walks.{less, Front, grids-front, block-front, bounded}
 use Rattle.image.proofs.Checking.{Begins}
 use Rattle.value_scrub.specs.declared.Blocks.{Blocks}
-use Rattle.value_scrub.specs.Tally.{ofBlocks, blockTally}
-use Rattle.value_scrub.specs.Steps.{bothGrids, RoomyGrids, ScrubbedGrids, ScrubbedBlock}
-use Rattle.value_scrub.proofs.Scrubs.{tally-two}
+use Rattle.value_scrub.specs.Tally.{ofBlocks, tallyIn as blocksTally, blockTally}
+use Rattle.value_scrub.specs.Steps.{wrapped, NoBlocks, ScrubbedGrids, ScrubbedBlock}
 use Rattle.card_scrub.specs.declared.Tallies.{Tallies}
 use Rattle.card_scrub.specs.Calls.{scrubbedPart, scrubbedCard, talliesOf}
-use Rattle.card_scrub.specs.Steps.{withBlocks, RoomyBlocks, ScrubbedFields}
+use Rattle.card_scrub.specs.Steps.{summed, ScrubbedFields, Passed}
 
 -- ---- the image from a field on, with the value v in place of its own, and e in place of what is behind it
 
@@ -52,16 +53,8 @@ module _ (n m : ℕ) (s v : List ℕ) (room : 3 + n ≤ length s) (long : length
   dropped : drop (3 + n) with-value ≡ drop (3 + n) s
   dropped = ap (drop (3 + n)) parted ∙ drop-at (take 3 s ++ v) (drop (3 + n) s) (3 + n) front-long
 
-  pub behind-it : take (length with-value - (3 + n)) (drop (3 + n) with-value) ≡ drop (3 + n) s
-  behind-it = part-behind (3 + n) with-value ∙ dropped
-
-  pub put-together : (e : List ℕ)
-      → take (3 + n) with-value ++ (e ++ drop (length with-value - (3 + n)) (drop (3 + n) with-value)) ≡ take 3 s ++ v ++ e
-  put-together e =
-      let few : length (drop (3 + n) with-value) ≤ length with-value - (3 + n) = omega (arith, length-drop (3 + n) with-value) in
-      ap₂ {C = List ℕ} (λ (a b : List ℕ). a ++ b)
-      (ap (take (3 + n)) parted ∙ take-at (take 3 s ++ v) (drop (3 + n) s) (3 + n) front-long)
-      (ap (λ b. e ++ b) (drop-of-length-le (drop (3 + n) with-value) few) ∙ append-nil e)
+  pub taken : take (3 + n) with-value ≡ take 3 s ++ v
+  taken = ap (take (3 + n)) parted ∙ take-at (take 3 s ++ v) (drop (3 + n) s) (3 + n) front-long
 
   pub same-long : length with-value ≡ length s
   same-long = ap length parted ∙ omega (arith, length-append (take 3 s ++ v) (drop (3 + n) s), front-long, length-drop (3 + n) s)
@@ -69,112 +62,191 @@ module _ (n m : ℕ) (s v : List ℕ) (room : 3 + n ≤ length s) (long : length
 head-is : (t n : ℕ) (s : List ℕ) → Below 8 s → Stands s t n → take 3 s ≡ head t n
 head-is t n s b h = ap (take 3) (split t n s b h)
 
--- ---- a grids field
+-- ---- what is counted of a field, and of those behind it
 
-module _ (s part v e : List ℕ) (n : ℕ) (r : Tally) (t : Tallies) (b : Below 8 s) (f : fieldOf s ≡ Grids n) (is : part ≡ value s)
-    (here : ScrubbedGrids part r v) (there : ScrubbedFields (drop (3 + n) s) t e) where
-  sizes : (n ≤ 4096) × (n % 8 ≡ 0)
-  sizes = grids-size n (known s f .1)
+-- of one field, ..
+abbrev countedIn : Part → Tallies
+countedIn (grids ws) = record { grids = gridTally ws; blocks = blockTally [] }
+countedIn (block w) = record { grids = gridTally []; blocks = blockTally (w ∷ []) }
 
+-- .. which has few grids
+abbrev Few : Part → Type 0
+Few (grids ws) = length ws ≤ 4096
+Few (block w) = Unit {0}
+
+-- where there is room for each sum, nothing wraps
+whole-sum : (t : Counted) → Small t → wrapped t ≡ t
+whole-sum t room = λ i. record {
+  words = mod-eq-of-lt (room .words) i;
+  clean = mod-eq-of-lt (room .clean) i;
+  mended = mod-eq-of-lt (room .mended) i;
+  lost = mod-eq-of-lt (room .lost) i;
+  flips = mod-eq-of-lt (room .flips) i;
+}
+
+sum-of-grids : (ws vs : List ℕ) → length ws ≤ 4096 → length vs ≤ 4096
+    → wrapped (plus (tallyOf gridCode ws) (tallyOf gridCode vs)) ≡ tallyOf gridCode (ws ++ vs)
+sum-of-grids ws vs p q =
+    whole-sum _ (small-sum gridCode (grid.promised .verdicts) 4096 ws vs p q (lit< tt) (lit< tt)) ∙ sym (tally-append gridCode ws vs)
+
+sum-of-blocks : (ws vs : List ℕ) → length ws ≤ 32768 → length vs ≤ 32768
+    → wrapped (plus (tallyOf blockCode ws) (tallyOf blockCode vs)) ≡ tallyOf blockCode (ws ++ vs)
+sum-of-blocks ws vs p q =
+    whole-sum _ (small-sum blockCode (promised .verdicts) 32768 ws vs p q (lit< tt) (lit< tt)) ∙ sym (tally-append blockCode ws vs)
+
+one-more : (p : Part) (ps : List Part) → Few p → length (gridsIn ps) ≤ 4096 → length (blocksIn ps) ≤ 32768
+    → summed (countedIn p) (talliesOf ps) ≡ talliesOf (p ∷ ps)
+one-more (grids ws) ps few g b = λ i. record {
+  grids = ofGrids (sum-of-grids ws (gridsIn ps) few g i);
+  blocks = ofBlocks (sum-of-blocks [] (blocksIn ps) (omega arith) b i);
+}
+one-more (block w) ps few g b = λ i. record {
+  grids = ofGrids (sum-of-grids [] (gridsIn ps) (omega arith) g i);
+  blocks = ofBlocks (sum-of-blocks (w ∷ []) (blocksIn ps) (omega arith) b i);
+}
+
+pub none-more : (ps : List Part) → length (gridsIn ps) ≤ 4096 → length (blocksIn ps) ≤ 32768 → summed (talliesOf []) (talliesOf ps) ≡ talliesOf ps
+none-more ps g b = λ i. record {
+  grids = ofGrids (sum-of-grids [] (gridsIn ps) (omega arith) g i);
+  blocks = ofBlocks (sum-of-blocks [] (blocksIn ps) (omega arith) b i);
+}
+
+-- ---- a data field p in front, of which v is the value put right
+
+module _ (s v : List ℕ) (n m : ℕ) (p : Part) (r : Tallies) (w : Walks s) (room : 3 + n ≤ length s) (long : length v ≡ n) (is : m ≡ n)
+    (few : Few p) (counted : r ≡ countedIn p) (put : take 3 s ++ v ≡ partBytes (scrubbedPart p))
+    (front : (left at : ℕ) (ps : List Part) → walk left at s ≡ sound ps → Front ps p (less left) (at + (3 + n)) (drop (3 + n) s)) where
+  abbrev exit : List ℕ
+  exit = with-value n m s v room long is
+
+  walks-on : Walks (drop (3 + n) s)
+  walks-on =
+      let f = front (w .left) (w .at) (w .parts) (w .found) in
+      record {
+        few = omega (arith, w .few, length-drop (3 + n) s);
+        left = less (w .left);
+        at = w .at + (3 + n);
+        parts = f .behind;
+        found = f .found;
+      }
+
+  onward : (there : Tallies) (e : List ℕ) → ScrubbedFields (drop (3 + n) s) there e → ScrubbedFields s (summed r there) (take (3 + n) exit ++ e)
+  unfolding partsBytes
+  onward there e rest = record {
+    answer = λ left at ps found.
+        let f = front left at ps found in
+        let b = bounded (less left) (at + (3 + n)) (drop (3 + n) s) (f .behind) (f .found) in
+        let l = length-drop (3 + n) s in
+        ap₂ summed counted (rest .answer (less left) (at + (3 + n)) (f .behind) (f .found))
+        ∙ one-more p (f .behind) few (omega (arith, b .0, l, w .few)) (omega (arith, b .1, l, w .few)) ∙ ap talliesOf (sym (f .is));
+    after = λ left at ps found.
+        let f = front left at ps found in
+        let there-after = rest .after (less left) (at + (3 + n)) (f .behind) (f .found) in
+        ap₂ {C = List ℕ} (λ (a b : List ℕ). a ++ b) (taken n m s v room long is ∙ put) there-after
+        ∙ sym (append-assoc (partBytes (scrubbedPart p)) (partsBytes (map scrubbedPart (f .behind))) (head 127 0))
+        ∙ ap (λ ps. partsBytes (map scrubbedPart ps) ++ head 127 0) (sym (f .is));
+  }
+
+  pub passed : Passed s (3 + n) r exit
+  passed = record {
+    some = omega arith;
+    room = room;
+    walks = walks-on;
+    long = same-long n m s v room long is;
+    behind = dropped n m s v room long is;
+    onward = onward;
+  }
+
+-- ---- a grids field, and a block
+
+module _ (s v : List ℕ) (n m : ℕ) (r : Tally) (none : Blocks) (w : Walks s) (b : Below 8 s) (f : fieldOf s ≡ Grids n) (is : m ≡ n)
+    (long : length v ≡ n) (here : ScrubbedGrids (take m (drop 3 s)) r v) (zero-blocks : NoBlocks none) where
   ws : List ℕ
   ws = wordsIn 8 (n / 8) (value s)
 
-  words-are : wordsIn 8 (length part / 8) part ≡ ws
+  words-are : wordsIn 8 (length (take m (drop 3 s)) / 8) (take m (drop 3 s)) ≡ ws
   unfolding ws
   words-are =
       let st = known s f .0 in
-      let l : length part / 8 ≡ n / 8 = omega (arith, ap length is, length-value s (omega (arith, st .size-is, st .room)), st .size-is) in
-      ap₂ (λ (k : ℕ) (p : List ℕ). wordsIn 8 k p) l is
+      let part : take m (drop 3 s) ≡ value s = ap (λ (k : ℕ). take k (drop 3 s)) (is ∙ sym (st .size-is)) in
+      let l : length (take m (drop 3 s)) / 8 ≡ n / 8 =
+      omega (arith, ap length part, length-value s (omega (arith, st .size-is, st .room)), st .size-is) in
+      ap₂ (λ (k : ℕ) (p : List ℕ). wordsIn 8 k p) l part
 
-  pub grids-scrubbed : ScrubbedFields s (record { grids = bothGrids r (t .grids); blocks = t .blocks }) (take 3 s ++ v ++ e)
-  unfolding ws partBytes partsBytes
-  grids-scrubbed = record {
-    answer = λ left at ps w.
-        let front = grids-front at s ps left n f w in
-        let rest = there .answer (less left) (at + (3 + n)) (front .behind) (front .found) in
-        (λ i. record {
-          grids = bothGrids ((here .answer ∙ ap gridTally words-are) i) (rest i .grids);
-          blocks = rest i .blocks;
-        })
-        ∙ sym (λ i. record { grids = tally-two ws (gridsIn (front .behind)) i; blocks = blockTally (blocksIn (front .behind)) })
-        ∙ ap talliesOf (sym (front .is));
-    after = λ left at ps w.
-        let front = grids-front at s ps left n f w in
-        let rest = there .after (less left) (at + (3 + n)) (front .behind) (front .found) in
-        let k : n ≡ 8 * length (map (scrubbed gridCode) ws) =
-        omega (arith, sizes .1, length-map ws (scrubbed gridCode), length-words 8 (n / 8) (value s)) in
-        let new = map (scrubbed gridCode) ws in
-        ap₂ {C = List ℕ} (λ (a b : List ℕ). a ++ b)
-        (ap₂ {C = List ℕ} (λ (a b : List ℕ). a ++ b) (head-is 2 n s b (known s f .0) ∙ ap (head 2) k)
-        (here .after ∙ ap (λ l. bytesOf 8 (map (scrubbed gridCode) l)) words-are)) rest
-        ∙ sym (append-assoc (head 2 (8 * length new) ++ bytesOf 8 new) (partsBytes (map scrubbedPart (front .behind))) (head 127 0))
-        ∙ ap (λ ps. partsBytes (map scrubbedPart ps) ++ head 127 0) (sym (front .is));
-  }
+  pub grids-passed : Passed s (3 + n) (record { grids = r; blocks = none }) (take 3 s ++ (v ++ drop m (drop 3 s)))
+  unfolding ws partBytes sumBy
+  grids-passed =
+      let st = known s f .0 in
+      let sizes = grids-size n (known s f .1) in
+      let new = map (scrubbed gridCode) ws in
+      let k : n ≡ 8 * length new = omega (arith, sizes .1, length-map ws (scrubbed gridCode), length-words 8 (n / 8) (value s)) in
+      passed s v n m (gridsAt n (value s)) (record { grids = r; blocks = none }) w (st .room) long is
+      (omega (arith, sizes .0, length-words 8 (n / 8) (value s)))
+      (λ i. record { grids = (here .answer ∙ ap gridTally words-are) i; blocks = zero-blocks .answer i })
+      (ap₂ {C = List ℕ} (λ (a b : List ℕ). a ++ b) (head-is 2 n s b st ∙ ap (head 2) k)
+      (here .after ∙ ap (λ l. bytesOf 8 (map (scrubbed gridCode) l)) words-are))
+      (λ left at ps found. grids-front at s ps left n f found)
 
--- ---- a block
+module _ (s v : List ℕ) (r : Blocks) (none : Tally) (w : Walks s) (b : Below 8 s) (f : fieldOf s ≡ Block)
+    (long : length v ≡ 76) (here : ScrubbedBlock (take 76 (drop 3 s)) r v) (zero-grids : NoGrids none) where
+  pub block-passed : Passed s 79 (record { grids = none; blocks = r }) (take 3 s ++ (v ++ drop 76 (drop 3 s)))
+  unfolding partBytes sumBy
+  block-passed =
+      let st = known s f in
+      let part : take 76 (drop 3 s) ≡ value s = ap (λ (k : ℕ). take k (drop 3 s)) (sym (st .size-is)) in
+      passed s v 76 76 (blockAt (value s)) (record { grids = none; blocks = r }) w (st .room) long refl tt
+      (λ i. record {
+        grids = zero-grids .answer i;
+        blocks = (here .answer ∙ ap (λ p. blockTally (joined 16 (wordsIn 2 38 p) ∷ [])) part) i;
+      })
+      (ap₂ {C = List ℕ} (λ (a b : List ℕ). a ++ b) (head-is 3 76 s b st)
+      (here .after ∙ ap (λ p. bytesOf 2 (digits 16 38 (scrubbed blockCode (joined 16 (wordsIn 2 38 p))))) part))
+      (λ left at ps found. block-front at s ps left f found)
 
-blocks-two : (w : ℕ) (bs : List ℕ) (t : Tallies) → t .blocks ≡ blockTally bs → withBlocks (blockTally (w ∷ [])) t .blocks ≡ blockTally (w ∷ bs)
-blocks-two w bs t e =
-    (λ i. withBlocks (blockTally (w ∷ [])) (record { grids = t .grids; blocks = e i }) .blocks)
-    ∙ sym (ap ofBlocks (tally-append blockCode (w ∷ []) bs))
+-- ---- sums of sums
 
-module _ (s part v e : List ℕ) (r : Blocks) (t : Tallies) (b : Below 8 s) (f : fieldOf s ≡ Block) (is : part ≡ value s)
-    (here : ScrubbedBlock part r v) (there : ScrubbedFields (drop 79 s) t e) where
-  pub block-scrubbed : ScrubbedFields s (withBlocks r t) (take 3 s ++ v ++ e)
-  unfolding partBytes partsBytes
-  block-scrubbed = record {
-    answer = λ left at ps w.
-        let front = block-front at s ps left f w in
-        let rest = there .answer (less left) (at + 79) (front .behind) (front .found) in
-        let word = joined 16 (wordsIn 2 38 (value s)) in
-        let r-is : r ≡ blockTally (word ∷ []) = here .answer ∙ ap (λ p. blockTally (joined 16 (wordsIn 2 38 p) ∷ [])) is in
-        ap (λ r. withBlocks r t) r-is
-        ∙ (λ i. record {
-          grids = rest i .grids;
-          blocks = blocks-two word (blocksIn (front .behind)) t (ap (λ t. t .blocks) rest) i;
-        })
-        ∙ ap talliesOf (sym (front .is));
-    after = λ left at ps w.
-        let front = block-front at s ps left f w in
-        let rest = there .after (less left) (at + 79) (front .behind) (front .found) in
-        let new = digits 16 38 (scrubbed blockCode (joined 16 (wordsIn 2 38 (value s)))) in
-        ap₂ {C = List ℕ} (λ (a b : List ℕ). a ++ b)
-        (ap₂ {C = List ℕ} (λ (a b : List ℕ). a ++ b) (head-is 3 76 s b (known s f))
-        (here .after ∙ ap (λ p. bytesOf 2 (digits 16 38 (scrubbed blockCode (joined 16 (wordsIn 2 38 p))))) is)) rest
-        ∙ sym (append-assoc (head 3 76 ++ bytesOf 2 new) (partsBytes (map scrubbedPart (front .behind))) (head 127 0))
-        ∙ ap (λ ps. partsBytes (map scrubbedPart ps) ++ head 127 0) (sym (front .is));
-  }
+again : (a b c : ℕ) → (a + (b + c) % 2 ^ 32) % 2 ^ 32 ≡ ((a + b) % 2 ^ 32 + c) % 2 ^ 32
+again a b c = omega arith
 
--- ---- there is room to add up what is counted
+wrapped-again : (a b c : Counted) → wrapped (plus a (wrapped (plus b c))) ≡ wrapped (plus (wrapped (plus a b)) c)
+wrapped-again a b c = λ i. record {
+  words = again (a .words) (b .words) (c .words) i;
+  clean = again (a .clean) (b .clean) (c .clean) i;
+  mended = again (a .mended) (b .mended) (c .mended) i;
+  lost = again (a .lost) (b .lost) (c .lost) i;
+  flips = again (a .flips) (b .flips) (c .flips) i;
+}
 
-pub block-laws : TallyPromises blockCode
-block-laws = tallies blockCode (promised .verdicts)
+pub summed-again : (a b c : Tallies) → summed a (summed b c) ≡ summed (summed a b) c
+summed-again a b c = λ i. record {
+  grids = ofGrids (wrapped-again (gridsTally (a .grids)) (gridsTally (b .grids)) (gridsTally (c .grids)) i);
+  blocks = ofBlocks (wrapped-again (blocksTally (a .blocks)) (blocksTally (b .blocks)) (blocksTally (c .blocks)) i);
+}
 
-pub grids-together : (s part v e : List ℕ) (n : ℕ) (r : Tally) (t : Tallies) → Walks s → fieldOf s ≡ Grids n → part ≡ value s
-    → ScrubbedGrids part r v → ScrubbedFields (drop (3 + n) s) t e → RoomyGrids r (t .grids)
-grids-together s part v e n r t w f is here there =
-    let front = grids-front (w .at) s (w .parts) (w .left) n f (w .found) in
-    let rest = there .answer (less (w .left)) (w .at + (3 + n)) (front .behind) (front .found) in
-    let few = bounded (less (w .left)) (w .at + (3 + n)) (drop (3 + n) s) (front .behind) (front .found) .0 in
-    let st = known s f .0 in
-    let long : length part ≤ 32768 = omega (arith, ap length is, length-value s (omega (arith, st .size-is, st .room)), st .size-is, st .room, w .few) in
-    let ws = wordsIn 8 (length part / 8) part in
-    subst (λ r. RoomyGrids r (t .grids)) (sym (here .answer))
-    (subst (λ t. RoomyGrids (gridTally ws) (t .grids)) (sym rest)
-    (small-sum gridCode (grid.promised .verdicts) 4096 ws (gridsIn (front .behind)) (omega (arith, long, length-words 8 (length part / 8) part))
-    (omega (arith, few, length-drop (3 + n) s, w .few)) (lit< tt) (lit< tt)))
+nothing-more : (a b : ℕ) → ((a + b) % 2 ^ 32 + 0) % 2 ^ 32 ≡ (a + b) % 2 ^ 32
+nothing-more a b = omega arith
 
-pub blocks-together : (s part v e : List ℕ) (r : Blocks) (t : Tallies) → Walks s → fieldOf s ≡ Block
-    → ScrubbedBlock part r v → ScrubbedFields (drop 79 s) t e → RoomyBlocks r (t .blocks)
-blocks-together s part v e r t w f here there =
-    let front = block-front (w .at) s (w .parts) (w .left) f (w .found) in
-    let rest = there .answer (less (w .left)) (w .at + 79) (front .behind) (front .found) in
-    let few = bounded (less (w .left)) (w .at + 79) (drop 79 s) (front .behind) (front .found) .1 in
-    let word = joined 16 (wordsIn 2 38 part) in
-    subst (λ r. RoomyBlocks r (t .blocks)) (sym (here .answer))
-    (subst (λ t. RoomyBlocks (blockTally (word ∷ [])) (t .blocks)) (sym rest)
-    (small-sum blockCode (promised .verdicts) 32768 (word ∷ []) (blocksIn (front .behind)) (omega arith)
-    (omega (arith, few, length-drop 79 s, w .few)) (lit< tt) (lit< tt)))
+wrapped-once : (a b : Counted) → wrapped (plus (wrapped (plus a b)) (tallyOf gridCode [])) ≡ wrapped (plus a b)
+unfolding sumBy
+wrapped-once a b = λ i. record {
+  words = nothing-more (a .words) (b .words) i;
+  clean = nothing-more (a .clean) (b .clean) i;
+  mended = nothing-more (a .mended) (b .mended) i;
+  lost = nothing-more (a .lost) (b .lost) i;
+  flips = nothing-more (a .flips) (b .flips) i;
+}
+
+-- nothing is added by no fields
+pub summed-none : (a b : Tallies) → summed (summed a b) (talliesOf []) ≡ summed a b
+unfolding sumBy
+summed-none a b = λ i. record {
+  grids = ofGrids (wrapped-once (gridsTally (a .grids)) (gridsTally (b .grids)) i);
+  blocks = ofBlocks (wrapped-once (blocksTally (a .blocks)) (blocksTally (b .blocks)) i);
+}
+
+pub none-none : summed (talliesOf []) (talliesOf []) ≡ talliesOf []
+unfolding sumBy
+none-none = refl
 
 -- ---- the whole image
 

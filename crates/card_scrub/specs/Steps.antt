@@ -1,25 +1,43 @@
 -- What the private steps of the call compute, so that their contracts can say it. No promise to a caller cites this file. Assumes nothing.
 use mathlib.Core.Path.{_≡_}
-use mathlib.Core.List.{List, _++_, map}
-use Prim.Native.Nat.{ℕ}
-use Rattle.codes.specs.Steps.{plus, Small}
+use mathlib.Core.List.{List, [], _++_, map}
+use Prim.Native.Nat.{ℕ, _≤_, _<_}
+use lib.ListN.{length, take, drop}
+use Rattle.codes.specs.Steps.{plus}
+use Rattle.page.specs.Answer.{tallyIn as gridsTally}
+use Rattle.page.specs.Calls.{ofGrids}
 use Rattle.image.specs.Card.{Part, sound, walk, head, partsBytes}
-use Rattle.value_scrub.specs.declared.Blocks.{Blocks}
-use Rattle.value_scrub.specs.Tally.{ofBlocks, tallyIn}
+use Rattle.image.specs.Steps.{Walks}
+use Rattle.value_scrub.specs.Tally.{ofBlocks, tallyIn as blocksTally}
+use Rattle.value_scrub.specs.Steps.{wrapped}
 use Rattle.card_scrub.specs.declared.Tallies.{Tallies}
+use Rattle.card_scrub.specs.declared.First.{First}
+use Rattle.card_scrub.specs.declared.First.the-variants.{Data, End}
 use Rattle.card_scrub.specs.Calls.{scrubbedPart, talliesOf}
 
--- ---- tallies
+-- both tallies of two parts, in numbers of 32 bits
+abbrev pub summed : Tallies → Tallies → Tallies
+summed a b = record {
+  grids = ofGrids (wrapped (plus (gridsTally (a .grids)) (gridsTally (b .grids))));
+  blocks = ofBlocks (wrapped (plus (blocksTally (a .blocks)) (blocksTally (b .blocks))));
+}
 
-abbrev pub withBlocks : Blocks → Tallies → Tallies
-withBlocks a t = record { grids = t .grids; blocks = ofBlocks (plus (tallyIn a) (tallyIn (t .blocks))) }
-
--- there is room for each sum
-abbrev pub RoomyBlocks : Blocks → Blocks → Type 0
-RoomyBlocks a b = Small (plus (tallyIn a) (tallyIn b))
-
--- ---- the fields behind a title
-
+-- the fields behind a title
 pub record ScrubbedFields (rest : List ℕ) (r : Tallies) (exit : List ℕ) : Type 0 where
   pub answer : (left at : ℕ) (ps : List Part) → walk left at rest ≡ sound ps → r ≡ talliesOf ps
   pub after : (left at : ℕ) (ps : List Part) → walk left at rest ≡ sound ps → exit ≡ partsBytes (map scrubbedPart ps) ++ head 127 0
+
+-- A data field of `size` bytes in front: with the fields behind it scrubbed, all are. These are as they were.
+pub record Passed (rest : List ℕ) (size : ℕ) (here : Tallies) (exit : List ℕ) : Type 0 where
+  pub some : 0 < size
+  pub room : size ≤ length rest
+  pub walks : Walks (drop size rest)
+  pub long : length exit ≡ length rest
+  pub behind : drop size exit ≡ drop size rest
+  pub onward : (there : Tallies) (e : List ℕ) → ScrubbedFields (drop size rest) there e
+      → ScrubbedFields rest (summed here there) (take size exit ++ e)
+
+-- the field in front: a data field, or the end, and then nothing is left
+abbrev pub ScrubbedFirst : List ℕ → First → List ℕ → Type 0
+ScrubbedFirst rest (Data size here) exit = Passed rest size here exit
+ScrubbedFirst rest End exit = ScrubbedFields rest (talliesOf []) exit

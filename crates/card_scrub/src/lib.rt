@@ -6,9 +6,13 @@
 //
 // specs/Calls.antt says what the call answers and leaves, and specs/Answer.antt what that is in document 01's terms.
 ghost use mathlib.Core.Path.{_≡_};
+ghost use mathlib.Core.List.{[]};
+ghost use Rattle.codes.specs.Steps.{plus};
 ghost use Rattle.image.specs.Steps.{Walks};
-ghost use Rattle.card_scrub.specs.Calls.{Scrubbed};
-ghost use Rattle.card_scrub.specs.Steps.{ScrubbedFields, RoomyBlocks, withBlocks};
+ghost use Rattle.value_scrub.specs.Tally.{ofBlocks, tallyIn};
+ghost use Rattle.value_scrub.specs.Steps.{wrapped};
+ghost use Rattle.card_scrub.specs.Calls.{talliesOf, Scrubbed};
+ghost use Rattle.card_scrub.specs.Steps.{summed, ScrubbedFields, ScrubbedFirst};
 use fields::BLOCK;
 use fields::Field;
 use fields::HEAD;
@@ -28,22 +32,80 @@ pub enum ScrubAnswer {
     Refused(Refusal),
 }
 
-// A block's tally, with that of what stands behind it.
-fn with_block(here: Blocks, there: Tallies) -> Tallies
-    requires { ⌜ RoomyBlocks here (there .blocks) ⌝ }
-    ensures { λ r. ⌜ r ≡ withBlocks here there ⌝ }
+// What stands at the front of a slice: a data field, with its bytes, head and value, and what was counted in it; or the end.
+enum First {
+    Data { size: usize, here: Tallies },
+    End,
+}
+
+// Two tallies of blocks, added up. The sums wrap.
+fn both_blocks(here: Blocks, there: Blocks) -> Blocks
+    ensures { λ r. ⌜ r ≡ ofBlocks (wrapped (plus (tallyIn here) (tallyIn there))) ⌝ }
 {
-    let grids = there.grids;
-    let blocks = there.blocks;
-    Tallies {
-        grids,
-        blocks: Blocks {
-            blocks: here.blocks + blocks.blocks,
-            clean: here.clean + blocks.clean,
-            mended: here.mended + blocks.mended,
-            lost: here.lost + blocks.lost,
-            flips: here.flips + blocks.flips,
-        },
+    Blocks {
+        blocks: std::num::wrapping_add_u32(here.blocks, there.blocks),
+        clean: std::num::wrapping_add_u32(here.clean, there.clean),
+        mended: std::num::wrapping_add_u32(here.mended, there.mended),
+        lost: std::num::wrapping_add_u32(here.lost, there.lost),
+        flips: std::num::wrapping_add_u32(here.flips, there.flips),
+    }
+}
+
+impl Tallies {
+    // Those of no fields.
+    fn none() -> Tallies
+        ensures { λ r. ⌜ r ≡ talliesOf [] ⌝ }
+    {
+        Tallies {
+            grids: Tally::none(),
+            blocks: value_scrub::no_blocks(),
+        }
+    }
+
+    // Both, with what was counted in one field more.
+    fn with_field(self, here: Tallies) -> Tallies
+        ensures { λ r. ⌜ r ≡ summed self here ⌝ }
+    {
+        let grids = self.grids;
+        let more_grids = here.grids;
+        let blocks = self.blocks;
+        let more_blocks = here.blocks;
+        Tallies {
+            grids: value_scrub::both(grids, more_grids),
+            blocks: both_blocks(blocks, more_blocks),
+        }
+    }
+}
+
+// The field at the front of a slice, scrubbed and counted where it is a data field.
+fn scrub_first(rest: &mut [u8]) -> First
+    requires { ⌜ Walks (now rest) ⌝ }
+    ensures { λ r. ⌜ ScrubbedFirst (now (rest .entry)) r (now (rest .exit)) ⌝ }
+{
+    match fields::front(rest) {
+        Field::Grids(n) => {
+            let size = HEAD + n;
+            let grids = value_scrub::grids(&mut rest[HEAD..size]);
+            First::Data {
+                size,
+                here: Tallies {
+                    grids,
+                    blocks: value_scrub::no_blocks(),
+                },
+            }
+        }
+        Field::Block => {
+            let size = HEAD + BLOCK;
+            let blocks = value_scrub::block(&mut rest[HEAD..size]);
+            First::Data {
+                size,
+                here: Tallies {
+                    grids: Tally::none(),
+                    blocks,
+                },
+            }
+        }
+        _ => First::End,
     }
 }
 
@@ -52,28 +114,18 @@ fn scrub_fields(rest: &mut [u8]) -> Tallies
     requires { ⌜ Walks (now rest) ⌝ }
     ensures { λ r. ⌜ ScrubbedFields (now (rest .entry)) r (now (rest .exit)) ⌝ }
 {
-    match fields::front(rest) {
-        Field::Grids(n) => {
-            let end = HEAD + n;
-            let here = value_scrub::grids(&mut rest[HEAD..end]);
-            let there = scrub_fields(&mut rest[end..]);
-            let grids = there.grids;
-            let blocks = there.blocks;
-            Tallies {
-                grids: value_scrub::both(here, grids),
-                blocks,
+    let mut tallies = Tallies::none();
+    let mut at: usize = 0;
+    loop {
+        match scrub_first(&mut rest[at..]) {
+            First::Data { size, here } => {
+                tallies = tallies.with_field(here);
+                at = at + size;
+            }
+            First::End => {
+                return tallies;
             }
         }
-        Field::Block => {
-            let end = HEAD + BLOCK;
-            let here = value_scrub::block(&mut rest[HEAD..end]);
-            let there = scrub_fields(&mut rest[end..]);
-            with_block(here, there)
-        }
-        _ => Tallies {
-            grids: Tally::none(),
-            blocks: value_scrub::no_blocks(),
-        },
     }
 }
 

@@ -1,9 +1,8 @@
 // The grids of a field's value read back: the data and the flips of each.
 //
-// specs/Shown.antt says what is shown of a grid. The public function accepts every input, and does nothing where there is no room.
+// specs/Shown.antt says what is shown of a grid. The public function accepts every input, and does nothing where there is no room;
+// specs/Steps.antt says so.
 ghost use mathlib.Core.Path.{_≡_};
-ghost use Prim.Native.Nat.{_/_, _≤_};
-ghost use lib.ListN.{length};
 ghost use Rattle.words.specs.Digits.{joined};
 ghost use Rattle.value_read.specs.Shown.{dataOfGrid, flipsOfGrid};
 ghost use Rattle.value_read.specs.Steps.{ReadValue};
@@ -40,7 +39,7 @@ fn show(grid: Grid) -> Shown
 
 // The grids of a value, to the front of the two slices.
 pub fn grids(value: &[u8], numbers: &mut [u16], flips: &mut [u8])
-    ensures { λ r. ⌜ (length (now (value .entry)) / 8 ≤ length (now (numbers .entry)) → length (now (value .entry)) / 8 ≤ length (now (flips .entry)) → ReadValue (now (value .entry)) (now (numbers .entry)) (now (flips .entry)) (now (numbers .exit)) (now (flips .exit))) ⌝ }
+    ensures { λ r. ⌜ ReadValue (now (value .entry)) (now (numbers .entry)) (now (flips .entry)) (now (numbers .exit)) (now (flips .exit)) ⌝ }
 {
     let n = value.len() / 8;
     if numbers.len() < n {

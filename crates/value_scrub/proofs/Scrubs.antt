@@ -1,18 +1,18 @@
 -- What a scrub makes of the grids and of the block in a value. Assumes nothing.
 use mathlib.Core.Path.{_≡_, refl, sym, ap, ap₂, _∙_, subst}
-use mathlib.Core.Bool.{Bool}
-use mathlib.Core.List.{List, [], _∷_, _++_, map, map-append, append-nil}
-use Prim.Native.Nat.{ℕ, _+_, _-_, _*_, _/_, _%_, _≤_, _<_}
+use mathlib.Core.Bool.{Bool, true, false}
+use mathlib.Core.List.{List, [], _∷_, _++_, map, map-append, append-assoc}
+use Prim.Native.Nat.{ℕ, _+_, _*_, _/_, _%_, _≤_}
+use native.Mathlib.Nat.{mod-eq-of-lt}
 use native.Mathlib.Omega.{arith}
 use lib.Dec.{lit<}
-use lib.ListN.{length, take, drop, length-append, length-map, length-drop, take-append-drop, drop-of-length-le}
-use lib.Seq.{take-at, drop-at, length-take-le}
-use borrow.Author.Tests.{eq-eqb}
+use lib.ListN.{length, take, drop, length-append, length-map, length-drop}
+use lib.Seq.{take-at, drop-at, take-add, drop-drop, length-take-le}
+use borrow.Author.Tests.{eq-eqb, ne-eqb}
 use Rattle.words.specs.Word.{choose}
 use Rattle.words.specs.Digits.{digits, joined, Below}
 use Rattle.words.specs.Bytes.{wordsIn, bytesOf}
 use Rattle.words.proofs.Digits.{length-digits, digits-joined}
-use Rattle.words.proofs.Lists.{part-behind}
 use Rattle.words.proofs.Bytes.{length-words, words-two, bytes-append, bytes-words, words-below}
 use Rattle.refusals.specs.declared.Refusal.the-variants.{Length}
 use Rattle.codes.specs.Verdict.{Verdict, clean, mended, lost, verdict, scrubbed}
@@ -22,7 +22,7 @@ use Rattle.grid_code.specs.Code.{gridCode}
 use Rattle.grid_code.proofs.Promises as grid
 use Rattle.page.specs.declared.Tally.{Tally}
 use Rattle.page.specs.declared.PageAnswer.the-variants.{Done as PageDone}
-use Rattle.page.specs.Calls.{ofGrids, gridTally, Scrubbed}
+use Rattle.page.specs.Calls.{ofGrids, gridTally, NoGrids, Scrubbed}
 use Rattle.page.proofs.Promises.{was-done}
 use Rattle.block_code.specs.Code.{blockCode}
 use Rattle.block_code.proofs.Promises as blocks
@@ -31,9 +31,12 @@ use Rattle.block.specs.Calls as block
 use Rattle.block.specs.declared.BlockVerdict.the-variants.{Clean, Mended}
 use Rattle.block.specs.declared.BlockAnswer.{BlockAnswer}
 use Rattle.block.specs.declared.BlockAnswer.the-variants.{Done, Refused}
+use Rattle.fields.specs.Fields.{isGrids}
+use Rattle.values.specs.Steps.{Put}
+use Rattle.values.proofs.Fits.{put-there}
 use Rattle.value_scrub.specs.declared.Blocks.{Blocks}
 use Rattle.value_scrub.specs.Tally.{ofBlocks, blockTally}
-use Rattle.value_scrub.specs.Steps.{bothGrids, RoomyGrids, ScrubbedGrids, ScrubbedBlock}
+use Rattle.value_scrub.specs.Steps.{NoBlocks, bothGrids, Added, RoomyGrids, ScrubbedGrids, ScrubbedBlock, AnyGrids, AnyBlock}
 
 -- ---- a scrub that mends nothing changes nothing
 
@@ -60,10 +63,10 @@ module _ (value page after : List ℕ) (n : ℕ) (t : Tally) (fits : length valu
   still = fits ∙ ap (λ n. 8 * n) (sym (ap length (was-done page after t done .2 ∙ ap (map (scrubbed gridCode)) taken)
       ∙ length-map (wordsIn 8 n value) (scrubbed gridCode) ∙ length-words 8 n value))
 
-  pub page-written : (exit : List ℕ) → (length value ≡ 8 * length after → exit ≡ bytesOf 8 after) → ScrubbedGrids value t exit
+  pub page-written : (exit : List ℕ) → Put 8 after value exit → ScrubbedGrids value t exit
   page-written exit e = record {
     answer = tally;
-    after = e still ∙ ap (bytesOf 8) (was-done page after t done .2 ∙ ap (map (scrubbed gridCode)) words);
+    after = put-there 8 value after exit still e ∙ ap (bytesOf 8) (was-done page after t done .2 ∙ ap (map (scrubbed gridCode)) words);
   }
 
   pub page-kept : t .mended ≡ 0 → ScrubbedGrids value t value
@@ -105,21 +108,87 @@ grids-roomy a b a′ b′ r s l m x y =
     (omega (arith, length-words 8 (length b / 8) b)) (lit< tt) (lit< tt) in
     subst (λ r. RoomyGrids r s) (sym (x .answer)) (subst (RoomyGrids (gridTally (wordsIn 8 (length a / 8) a))) (sym (y .answer)) few)
 
--- the first n bytes, and what is lent behind them
-pub grids-parts : (n : ℕ) (v a′ b′ : List ℕ) (r s : Tally) → n ≤ length v → n % 8 ≡ 0 → length v % 8 ≡ 0 → length a′ ≡ n → ScrubbedGrids (take n v) r a′
-    → ScrubbedGrids (take (length (a′ ++ drop n v) - n) (drop n (a′ ++ drop n v))) s b′
-    → ScrubbedGrids v (bothGrids r s) (take n (a′ ++ drop n v) ++ (b′ ++ drop (length (a′ ++ drop n v) - n) (drop n (a′ ++ drop n v))))
-grids-parts n v a′ b′ r s l p q e x y =
-    let t = a′ ++ drop n v in
-    let behind : take (length t - n) (drop n t) ≡ drop n v = part-behind n t ∙ drop-at a′ (drop n v) n e in
-    let few : length (drop n t) ≤ length t - n = omega (arith, length-drop n t) in
-    let none : drop (length t - n) (drop n t) ≡ [] = drop-of-length-le (drop n t) few in
-    let whole : a′ ++ b′ ≡ take n t ++ (b′ ++ drop (length t - n) (drop n t)) =
-    sym (ap₂ {C = List ℕ} (λ (c d : List ℕ). c ++ d) (take-at a′ (drop n v) n e) (ap (λ d. b′ ++ d) none ∙ append-nil b′)) in
-    subst (λ w. ScrubbedGrids v (bothGrids r s) w) whole
-    (subst (λ w. ScrubbedGrids w (bothGrids r s) (a′ ++ b′)) (take-append-drop n v)
-    (grids-two (take n v) (drop n v) a′ b′ r s (omega (arith, p, length-take-le n v l)) (omega (arith, p, q, length-drop n v)) x
-    (subst (λ w. ScrubbedGrids w s b′) behind y)))
+-- of no grids
+pub no-grids : (r : Tally) → NoGrids r → ScrubbedGrids [] r []
+unfolding sumBy wordsIn bytesOf
+no-grids r h = record { answer = h .answer; after = refl }
+
+-- where there is room for each sum, nothing wraps
+pub summed : (a b r : Tally) → RoomyGrids a b → Added a b r → r ≡ bothGrids a b
+summed a b r room h =
+    h .answer
+    ∙ λ i. record {
+      grids = mod-eq-of-lt (room .words) i;
+      clean = mod-eq-of-lt (room .clean) i;
+      mended = mod-eq-of-lt (room .mended) i;
+      lost = mod-eq-of-lt (room .lost) i;
+      flips = mod-eq-of-lt (room .flips) i;
+    }
+
+-- One page more. Of the value as it was, the bytes before `at` are scrubbed, and those from there on are as they were.
+module _ (value now : List ℕ) (at n m : ℕ) (t r u : Tally) (page : List ℕ) (few : length value ≤ 4096) (inside : at + 8 * n ≤ length value)
+    (whole : at % 8 ≡ 0) (same : length now ≡ length value) (front : ScrubbedGrids (take at value) t (take at now))
+    (behind : drop at now ≡ drop at value) (is : m ≡ 8 * n) (long : length page ≡ 8 * n) (here : ScrubbedGrids (take m (drop at now)) r page)
+    (sum : Added t r u) where
+  abbrev next : List ℕ
+  next = take at now ++ (page ++ drop m (drop at now))
+
+  front-long : length (take at now ++ page) ≡ at + 8 * n
+  front-long = omega (arith, length-append (take at now) page, length-take-le at now (omega (arith, same, inside)), long)
+
+  parted : next ≡ take at now ++ page ++ drop (at + 8 * n) now
+  parted =
+      sym (append-assoc (take at now) page (drop m (drop at now)))
+      ∙ ap (λ b. take at now ++ page ++ b) (drop-drop m at now ∙ ap (λ (k : ℕ). drop (at + k) now) is)
+
+  pub page-long : length next ≡ length value
+  page-long =
+      omega (arith, ap length parted, length-append (take at now ++ page) (drop (at + 8 * n) now), front-long, length-drop (at + 8 * n) now, same, inside)
+
+  pub page-more : ScrubbedGrids (take (at + 8 * n) value) u (take (at + 8 * n) next)
+  page-more =
+      let there : ScrubbedGrids (take (8 * n) (drop at value)) r page =
+      subst (λ l. ScrubbedGrids (take (8 * n) l) r page) behind (subst (λ (k : ℕ). ScrubbedGrids (take k (drop at now)) r page) is here) in
+      let l = length-take-le at value (omega (arith, inside)) in
+      let m = length-take-le (8 * n) (drop at value) (omega (arith, inside, length-drop at value)) in
+      let room =
+      grids-roomy (take at value) (take (8 * n) (drop at value)) (take at now) page t r (omega (arith, l, few, inside)) (omega (arith, m, few, inside)) front there in
+      let two =
+      grids-two (take at value) (take (8 * n) (drop at value)) (take at now) page t r (omega (arith, l, whole)) (omega (arith, m)) front there in
+      subst (λ w. ScrubbedGrids w u (take (at + 8 * n) next)) (sym (take-add at (8 * n) value))
+      (record {
+        answer = summed t r u room sum ∙ two .answer;
+        after = ap (take (at + 8 * n)) parted ∙ take-at (take at now ++ page) (drop (at + 8 * n) now) (at + 8 * n) front-long ∙ two .after;
+      })
+
+  pub page-behind : drop (at + 8 * n) next ≡ drop (at + 8 * n) value
+  page-behind =
+      ap (drop (at + 8 * n)) parted ∙ drop-at (take at now ++ page) (drop (at + 8 * n) now) (at + 8 * n) front-long
+      ∙ sym (drop-drop (8 * n) at now) ∙ ap (drop (8 * n)) behind ∙ drop-drop (8 * n) at value
+
+-- ---- any value
+
+module _ (value exit : List ℕ) (r : Tally) where
+  pub fits-grids : isGrids (length value) ≡ true → ScrubbedGrids value r exit → AnyGrids value r exit
+  fits-grids h x = record { answer = rw h (x .answer); after = rw h (x .after) }
+
+  pub fitting-grids : isGrids (length value) ≡ true → AnyGrids value r exit → ScrubbedGrids value r exit
+  fitting-grids h x = record { answer = x .answer ∙ (rw h); after = x .after ∙ (rw h) }
+
+pub other-grids : (value : List ℕ) (r : Tally) → isGrids (length value) ≡ false → NoGrids r → AnyGrids value r value
+unfolding sumBy
+other-grids value r h none = record { answer = rw h (none .answer); after = rw h }
+
+module _ (value exit : List ℕ) (r : Blocks) (h : length value ≡ 76) where
+  pub fits-block : ScrubbedBlock value r exit → AnyBlock value r exit
+  fits-block x = let e = eq-eqb (length value) 76 h in record { answer = rw e (x .answer); after = rw e (x .after) }
+
+  pub fitting-block : AnyBlock value r exit → ScrubbedBlock value r exit
+  fitting-block x = let e = eq-eqb (length value) 76 h in record { answer = x .answer ∙ (rw e); after = x .after ∙ (rw e) }
+
+pub other-block : (value : List ℕ) (r : Blocks) → (length value ≡ 76 → ⊥) → NoBlocks r → AnyBlock value r value
+unfolding sumBy
+other-block value r h none = let e = ne-eqb (length value) 76 h in record { answer = rw e (none .answer); after = rw e }
 
 -- ---- a block
 
@@ -159,11 +228,13 @@ module _ (value words after : List ℕ) (r : BlockAnswer) (fits : length value �
       ∙ ap {B = List ℕ} (λ (b : Bool). choose b (digits 16 38 (scrubbed blockCode (joined 16 words))) words) (eq-eqb (length words) 38 thirty-eight)
       ∙ ap (λ l. digits 16 38 (scrubbed blockCode (joined 16 l))) taken
 
-  pub words-written : (exit : List ℕ) → (length value ≡ 2 * length after → exit ≡ bytesOf 2 after) → ScrubbedBlock value (ofAnswer r) exit
+  pub words-written : (exit : List ℕ) → Put 2 after value exit → ScrubbedBlock value (ofAnswer r) exit
   unfolding w
   words-written exit e = record {
     answer = answer;
-    after = e (omega (arith, fits, ap length is-after, length-digits 16 38 (scrubbed blockCode w))) ∙ ap (bytesOf 2) is-after;
+    after =
+        put-there 2 value after exit (omega (arith, fits, ap length is-after, length-digits 16 38 (scrubbed blockCode w))) e
+        ∙ ap (bytesOf 2) is-after;
   }
 
   pub words-kept : ofAnswer r .mended ≡ 0 → ScrubbedBlock value (ofAnswer r) value

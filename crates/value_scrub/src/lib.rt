@@ -1,14 +1,14 @@
 // The value of a data field scrubbed where it stands: the grids by way of pages, the block by way of its words. Each public function
-// accepts every input; what it does is promised where the length fits.
+// accepts every input: a value whose length no field has stays as it is, and nothing is counted.
 //
-// specs/Tally.antt says what is counted of blocks, and the scrub of a card image cites it. No promise to a caller cites anything else of
-// this crate.
+// specs/Tally.antt says what is counted of blocks, and the scrub of a card image cites it. specs/Steps.antt says what each step does; no
+// promise to a caller cites it.
 ghost use mathlib.Core.Path.{_≡_};
-ghost use Prim.Native.Nat.{_*_, _%_, _≤_};
+ghost use Prim.Native.Nat.{_*_, _%_, _≤_, _<_};
 ghost use lib.ListN.{length};
 ghost use Rattle.page.specs.Calls.{mostGrids};
 ghost use Rattle.fields.specs.Fields.{gridsMost, blockBytes};
-ghost use Rattle.value_scrub.specs.Steps.{ScrubbedGrids, ScrubbedBlock, RoomyGrids, noBlocks, bothGrids, pageGrids};
+ghost use Rattle.value_scrub.specs.Steps.{NoBlocks, Added, ScrubbedGrids, ScrubbedBlock, AnyGrids, AnyBlock, pageGrids};
 use block::Block;
 use block::BlockAnswer;
 use block::BlockVerdict;
@@ -24,14 +24,12 @@ pub struct Blocks {
     pub flips: u32,
 }
 
-// The grids that are laid out at a time, and their bytes: half a kilobyte of stack.
+// The grids that are laid out at a time: half a kilobyte of stack.
 const PAGE_GRIDS: usize = 64;
-
-const PAGE_BYTES: usize = 8 * PAGE_GRIDS;
 
 // The tally of no blocks.
 pub fn no_blocks() -> Blocks
-    ensures { λ r. ⌜ r ≡ noBlocks ⌝ }
+    ensures { λ r. ⌜ NoBlocks r ⌝ }
 {
     Blocks {
         blocks: 0,
@@ -44,7 +42,7 @@ pub fn no_blocks() -> Blocks
 
 // Two tallies, added up. The sums wrap, so that there are no two tallies that it does not accept.
 pub fn both(here: Tally, there: Tally) -> Tally
-    ensures { λ r. ⌜ (RoomyGrids here there → r ≡ bothGrids here there) ⌝ }
+    ensures { λ r. ⌜ Added here there r ⌝ }
 {
     Tally {
         grids: std::num::wrapping_add_u32(here.grids, there.grids),
@@ -72,23 +70,35 @@ fn by_page(value: &mut [u8], page: &mut [u64]) -> Tally
     }
 }
 
+// How many of the grids that are left go into the next page.
+fn next_page(left: usize) -> usize
+    ensures { λ n. ⌜ (n ≤ left) × (n ≤ pageGrids) × (0 < left → 0 < n) ⌝ }
+{
+    if left < PAGE_GRIDS {
+        return left;
+    }
+    PAGE_GRIDS
+}
+
 // Grids, a page at a time.
 fn by_pages(value: &mut [u8], page: &mut [u64]) -> Tally
     requires { ⌜ (length (now value) ≤ gridsMost) × (length (now value) % 8 ≡ 0) × (length (now page) ≡ pageGrids) ⌝ }
     ensures { λ r. ⌜ ScrubbedGrids (now (value .entry)) r (now (value .exit)) ⌝ }
 {
-    if value.len() <= PAGE_BYTES {
-        let n = value.len() / 8;
-        return by_page(value, &mut page[..n]);
+    let mut tally = Tally::none();
+    let mut at: usize = 0;
+    while at < value.len() {
+        let n = next_page((value.len() - at) / 8);
+        let end = at + 8 * n;
+        tally = both(tally, by_page(&mut value[at..end], &mut page[..n]));
+        at = end;
     }
-    let here = by_page(&mut value[..PAGE_BYTES], page);
-    let there = by_pages(&mut value[PAGE_BYTES..], page);
-    both(here, there)
+    tally
 }
 
 // The value of a grids field. One of another length stays as it is.
 pub fn grids(value: &mut [u8]) -> Tally
-    ensures { λ r. ⌜ ((length (now (value .entry)) ≤ gridsMost) × (length (now (value .entry)) % 8 ≡ 0) → ScrubbedGrids (now (value .entry)) r (now (value .exit))) ⌝ }
+    ensures { λ r. ⌜ AnyGrids (now (value .entry)) r (now (value .exit)) ⌝ }
 {
     if value.len() > fields::GRIDS_MOST {
         return Tally::none();
@@ -138,7 +148,7 @@ fn by_words(value: &mut [u8], words: &mut [u16]) -> Blocks
 
 // The value of a block field. One of another length stays as it is.
 pub fn block(value: &mut [u8]) -> Blocks
-    ensures { λ r. ⌜ (length (now (value .entry)) ≡ blockBytes → ScrubbedBlock (now (value .entry)) r (now (value .exit))) ⌝ }
+    ensures { λ r. ⌜ AnyBlock (now (value .entry)) r (now (value .exit)) ⌝ }
 {
     if value.len() != fields::BLOCK {
         return no_blocks();

@@ -1,10 +1,13 @@
-// The bytes of a field's value as grids and as words, and back. Each function works at the front of a slice, and accepts every input; what
-// it does is promised where the lengths fit. No promise to a caller cites this crate.
+// The bytes of a field's value as grids and as words, and back. Each public function works at the front of a slice, and accepts every
+// input: where the lengths do not fit, nothing is written.
+//
+// specs/Steps.antt says what each of them does. No promise to a caller cites this crate.
 ghost use mathlib.Core.Path.{_≡_};
-ghost use Prim.Native.Nat.{_*_, _≤_};
+ghost use Prim.Native.Nat.{_≤_};
 ghost use lib.ListN.{length, take};
 ghost use Rattle.words.specs.Digits.{digits, joined};
-ghost use Rattle.words.specs.Bytes.{wordsIn, bytesOf, laid};
+ghost use Rattle.words.specs.Bytes.{laid};
+ghost use Rattle.values.specs.Steps.{FirstRows, Copied, Taken, Put};
 use grid::Grid;
 
 // The grid whose rows are the first eight bytes, ..
@@ -28,7 +31,7 @@ fn grid_at(bytes: &[u8]) -> Grid
 
 // .. for every slice, ..
 pub fn grid(bytes: &[u8]) -> Grid
-    ensures { λ r. ⌜ (8 ≤ length (now (bytes .entry)) → r .rows ≡ take 8 (now (bytes .entry))) ⌝ }
+    ensures { λ r. ⌜ FirstRows (now (bytes .entry)) (r .rows) ⌝ }
 {
     if bytes.len() < 8 {
         return Grid { rows: [0; 8] };
@@ -38,7 +41,7 @@ pub fn grid(bytes: &[u8]) -> Grid
 
 // .. and the rows put there.
 pub fn put_grid(bytes: &mut [u8], grid: Grid)
-    ensures { λ r. ⌜ (8 ≤ length (now (bytes .entry)) → now (bytes .exit) ≡ laid (grid .rows) (now (bytes .entry))) ⌝ }
+    ensures { λ r. ⌜ Copied (grid .rows) (now (bytes .entry)) (now (bytes .exit)) ⌝ }
 {
     if bytes.len() < 8 {
         return;
@@ -73,7 +76,7 @@ fn put_word(bytes: &mut [u8], word: u16)
 
 // Bytes to the front of a slice.
 pub fn copy(bytes: &[u8], to: &mut [u8])
-    ensures { λ r. ⌜ (length (now (bytes .entry)) ≤ length (now (to .entry)) → now (to .exit) ≡ laid (now (bytes .entry)) (now (to .entry))) ⌝ }
+    ensures { λ r. ⌜ Copied (now (bytes .entry)) (now (to .entry)) (now (to .exit)) ⌝ }
 {
     if to.len() < bytes.len() {
         return;
@@ -87,7 +90,7 @@ pub fn copy(bytes: &[u8], to: &mut [u8])
 
 // The grids of a value, as a page, ..
 pub fn grids(bytes: &[u8], page: &mut [u64])
-    ensures { λ r. ⌜ (length (now (bytes .entry)) ≡ 8 * length (now (page .entry)) → now (page .exit) ≡ wordsIn 8 (length (now (page .entry))) (now (bytes .entry))) ⌝ }
+    ensures { λ r. ⌜ Taken 8 (now (bytes .entry)) (now (page .entry)) (now (page .exit)) ⌝ }
 {
     if bytes.len() / 8 < page.len() {
         return;
@@ -102,7 +105,7 @@ pub fn grids(bytes: &[u8], page: &mut [u64])
 
 // .. and back.
 pub fn put_grids(bytes: &mut [u8], page: &[u64])
-    ensures { λ r. ⌜ (length (now (bytes .entry)) ≡ 8 * length (now (page .entry)) → now (bytes .exit) ≡ bytesOf 8 (now (page .entry))) ⌝ }
+    ensures { λ r. ⌜ Put 8 (now (page .entry)) (now (bytes .entry)) (now (bytes .exit)) ⌝ }
 {
     if bytes.len() / 8 < page.len() {
         return;
@@ -117,7 +120,7 @@ pub fn put_grids(bytes: &mut [u8], page: &[u64])
 
 // The words of a value, ..
 pub fn words(bytes: &[u8], words: &mut [u16])
-    ensures { λ r. ⌜ (length (now (bytes .entry)) ≡ 2 * length (now (words .entry)) → now (words .exit) ≡ wordsIn 2 (length (now (words .entry))) (now (bytes .entry))) ⌝ }
+    ensures { λ r. ⌜ Taken 2 (now (bytes .entry)) (now (words .entry)) (now (words .exit)) ⌝ }
 {
     if bytes.len() / 2 < words.len() {
         return;
@@ -132,7 +135,7 @@ pub fn words(bytes: &[u8], words: &mut [u16])
 
 // .. and back.
 pub fn put_words(bytes: &mut [u8], words: &[u16])
-    ensures { λ r. ⌜ (length (now (bytes .entry)) ≡ 2 * length (now (words .entry)) → now (bytes .exit) ≡ bytesOf 2 (now (words .entry))) ⌝ }
+    ensures { λ r. ⌜ Put 2 (now (words .entry)) (now (bytes .entry)) (now (bytes .exit)) ⌝ }
 {
     if bytes.len() / 2 < words.len() {
         return;

@@ -9,6 +9,7 @@ use Rattle.words.specs.Bytes.{laid}
 use Rattle.image.specs.Card.{gridsIn}
 use Rattle.image.specs.Calls.{Checked}
 use Rattle.image.proofs.Checking.{checked-refused, whole, walks, title-is, title-room, behind-title, found-behind}
+use Rattle.values.proofs.Fits.{copy-there}
 use Rattle.card_read.specs.declared.ReadAnswer.the-variants.{Done}
 use Rattle.card_read.specs.Steps.{ReadsFields}
 use Rattle.card_read.proofs.Readings.{not-read, short-title, short-numbers, short-flips, roomy, no-room, all-read}
@@ -106,7 +107,7 @@ returns-5 c =
     (omega (arith, w .grids, c .before .before .before .before .before .before .before .before .before .before .before .before .if3 .left))) in
     record {
       answer = ap₂ (λ (t g : ℕ). Done t g) (ap length name) (w .grids) ∙ all .answer;
-      title-after = copy .ensures room ∙ ap (λ n. laid n t) name ∙ all .title-after;
+      title-after = copy-there (now (title .result)) t (copy .last .1 .0) room (copy .ensures) ∙ ap (λ n. laid n t) name ∙ all .title-after;
       numbers-after = read-fields .ensures .numbers-after _ _ (w .card .parts) found ∙ all .numbers-after;
       flips-after = read-fields .ensures .flips-after _ _ (w .card .parts) found ∙ all .flips-after;
     }

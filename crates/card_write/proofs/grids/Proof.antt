@@ -3,15 +3,17 @@ use mathlib.Core.Path.{_≡_, refl, sym, ap, _∙_}
 use mathlib.Core.List.{map}
 use Prim.Native.Nat.{_-_, _*_, _≤_, _<_}
 use native.Mathlib.Omega.{arith}
-use lib.ListN.{length, take, drop, length-map}
+use lib.ListN.{length, getD, take, drop, length-map}
 use lib.Seq.{take-all}
 use denote.Ref.{now}
 use borrow.Author.Needs.{needs}
 use Rattle.words.specs.Digits.{digits}
 use Rattle.words.specs.Bytes.{bytesOf, laid}
+use Rattle.words.proofs.Digits.{length-digits}
 use Rattle.words.proofs.Lists.{length-part, map-getD}
 use Rattle.words.proofs.Turns.{no-words, word-turn, length-turn}
 use Rattle.grid_code.specs.Code.{codeword}
+use Rattle.values.proofs.Fits.{copy-there}
 use Rattle.card_write.proofs.grids.Statement.{statement}
 use Rattle.card_write.proofs.grids.Tie as tie
 
@@ -33,8 +35,11 @@ loop-again c =
     let room : 8 * length ws ≤ length (now (s .args .bytes)) = omega (arith, long, s .pre) in
     let put = c .before .before .put-grid in
     let rows = c .before .before .before .encode .ensures .0 .answer ∙ ap (digits 8 8) (sym (map-getD codeword ns (l .i) (omega arith))) in
-    let turn =
-    word-turn 8 ws (now (s .args .bytes)) (l .bytes) (l .i) (put .last .0) more room (l .inv .1) (put .ensures (omega (arith, length-part (8 * l .i) (l .bytes), room)) ∙ ap (λ b. laid b (take (length (l .bytes) - 8 * l .i) (drop (8 * l .i) (l .bytes)))) rows) in
+    let eight : length (c .before .before .before .encode .result .rows) ≡ 8 = ap length rows ∙ length-digits 8 8 (getD ws (l .i) 0) in
+    let part = take (length (l .bytes) - 8 * l .i) (drop (8 * l .i) (l .bytes)) in
+    let there =
+    copy-there (c .before .before .before .encode .result .rows) part (put .last .0) (omega (arith, length-part (8 * l .i) (l .bytes), room, eight)) (put .ensures) in
+    let turn = word-turn 8 ws (now (s .args .bytes)) (l .bytes) (l .i) (put .last .0) more room (l .inv .1) (there ∙ ap (λ b. laid b part) rows) in
     (omega arith, turn, ap length turn ∙ length-turn 8 ws (now (s .args .bytes)) (l .bytes) (l .i) (put .last .0) more room)
 
 same-length : tie.Need-same-length Inv-loop μ-loop

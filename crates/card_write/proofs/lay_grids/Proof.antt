@@ -29,8 +29,8 @@ returns c =
     let long : length (head 2 n ++ bytesOf 8 (map codeword ns)) ≡ 3 + n =
     omega (arith, length-append (head 2 n) (bytesOf 8 (map codeword ns)), length-bytes 8 (map codeword ns), length-map ns codeword) in
     let two = laid-part (head 2 n) image 3 refl (first .last .0) (bytesOf 8 (map codeword ns)) (second .last .0) (first .ensures)
-    (omega (arith, s .pre .1)) (second .ensures) in
-    laid-part (head 2 n ++ bytesOf 8 (map codeword ns)) image (3 + n) long _ (head 127 0) (third .last .0) two (omega (arith, s .pre .1)) (third .ensures)
+    (second .ensures) in
+    laid-part (head 2 n ++ bytesOf 8 (map codeword ns)) image (3 + n) long _ (head 127 0) (third .last .0) two (third .ensures)
     ∙ ap (λ b. laid (b ++ head 127 0) image) (field ns)
 
 pub lay-grids-spec : {M : Type 1} → statement M

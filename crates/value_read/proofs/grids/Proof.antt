@@ -3,7 +3,7 @@ use mathlib.Core.Path.{_≡_, refl, ap, _∙_}
 use mathlib.Core.List.{map}
 use Prim.Native.Nat.{_-_, _*_, _/_, _≤_, _<_}
 use native.Mathlib.Omega.{arith}
-use lib.ListN.{length, set, take, length-set, length-map}
+use lib.ListN.{length, set, take, drop, length-set, length-map}
 use lib.Seq.{take-all}
 use denote.Ref.{now}
 use borrow.Author.Needs.{needs}
@@ -12,7 +12,9 @@ use Rattle.words.specs.Bytes.{wordsIn, laid}
 use Rattle.words.proofs.Lists.{length-part}
 use Rattle.words.proofs.Bytes.{length-words, laid-none}
 use Rattle.words.proofs.Turns.{word-there, map-turn}
+use Rattle.values.proofs.Fits.{rows-there}
 use Rattle.value_read.specs.Shown.{dataOfGrid, flipsOfGrid}
+use Rattle.value_read.proofs.Room.{numbers-short, flips-short, all-read}
 use Rattle.value_read.proofs.grids.Statement.{statement}
 use Rattle.value_read.proofs.grids.Tie as tie
 
@@ -33,7 +35,9 @@ loop-again c =
     let ws = wordsIn 8 n value in
     let more : l .i < n = omega arith in
     let inside : l .i < length ws = omega (arith, length-words 8 n value) in
-    let word = ap (joined 8) (c .before .grid .ensures (omega (arith, length-part (8 * l .i) value))) ∙ word-there 8 n value (l .i) more in
+    let part = take (length value - 8 * l .i) (drop (8 * l .i) value) in
+    let rows = rows-there part (c .before .grid .result .rows) (omega (arith, length-part (8 * l .i) value)) (c .before .grid .ensures) in
+    let word = ap (joined 8) rows ∙ word-there 8 n value (l .i) more in
     let here = map-turn dataOfGrid ws (now (a .numbers)) (l .i) (c .show .result .number) inside (omega arith) (c .show .ensures .0 ∙ ap dataOfGrid word) in
     let there = map-turn flipsOfGrid ws (now (a .flips)) (l .i) (c .show .result .flips) inside (omega arith) (c .show .ensures .1 ∙ ap flipsOfGrid word) in (
       omega arith,
@@ -44,22 +48,25 @@ loop-again c =
     )
 
 returns : tie.Need-returns Inv-loop μ-loop
-returns c h k = absurd (omega (arith, c .if1 .taken, h))
+returns c =
+    let a = c .before .before .before .before .args in
+    numbers-short (now (a .value)) (now (a .numbers)) (now (a .flips)) (omega arith)
 
 returns-2 : tie.Need-returns-2 Inv-loop μ-loop
-returns-2 c h k = absurd (omega (arith, c .if2 .taken, k))
+returns-2 c =
+    let a = c .before .before .before .before .before .args in
+    flips-short (now (a .value)) (now (a .numbers)) (now (a .flips)) (omega arith) (omega arith)
 
 returns-3 : tie.Need-returns-3 Inv-loop μ-loop
-returns-3 c h k =
+returns-3 c =
     let l = c .before .loop in
     let a = c .before .before .before .before .before .before .before .args in
     let n = length (now (a .value)) / 8 in
     let ws = wordsIn 8 n (now (a .value)) in
     let all : length ws ≤ l .i = omega (arith, length-words 8 n (now (a .value))) in
-    record {
-      numbers-after = l .inv .1 ∙ ap (λ b. laid b (now (a .numbers))) (take-all (l .i) (map dataOfGrid ws) (omega (arith, length-map ws dataOfGrid)));
-      flips-after = l .inv .3 ∙ ap (λ b. laid b (now (a .flips))) (take-all (l .i) (map flipsOfGrid ws) (omega (arith, length-map ws flipsOfGrid)));
-    }
+    all-read (now (a .value)) (now (a .numbers)) (now (a .flips)) (omega arith) (omega arith) (l .numbers) (l .flips)
+    (l .inv .1 ∙ ap (λ b. laid b (now (a .numbers))) (take-all (l .i) (map dataOfGrid ws) (omega (arith, length-map ws dataOfGrid))))
+    (l .inv .3 ∙ ap (λ b. laid b (now (a .flips))) (take-all (l .i) (map flipsOfGrid ws) (omega (arith, length-map ws flipsOfGrid))))
 
 pub grids-spec : {M : Type 1} → statement M
 grids-spec =

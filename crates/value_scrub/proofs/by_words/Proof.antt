@@ -8,6 +8,7 @@ use Rattle.words.specs.Bytes.{wordsIn}
 use Rattle.block.specs.declared.BlockAnswer.the-variants.{Done}
 use Rattle.value_scrub.specs.declared.Blocks.{Blocks}
 use Rattle.value_scrub.specs.Steps.{ScrubbedBlock}
+use Rattle.values.proofs.Fits.{taken-there}
 use Rattle.value_scrub.proofs.Scrubs.{ofAnswer, words-written, words-kept}
 use Rattle.value_scrub.proofs.by_words.Statement.{statement}
 use Rattle.value_scrub.proofs.by_words.Tie as tie
@@ -20,7 +21,8 @@ returns c =
     let words = m .before .before .before .before .before .before .before .words in
     let s = m .before .before .before .before .before .before .before .before .before .before .before .before in
     let is = ap ofAnswer (at .verdict .given .1 ∙ ap Done (c .enum-told .given .1)) in
-    let taken = words .ensures (omega (arith, s .pre)) ∙ ap (λ (n : ℕ). wordsIn 2 n (now (s .args .value))) (s .pre .1) in
+    let taken =
+    taken-there 2 (now (s .args .value)) (now (s .args .words)) (words .last .1 .0) (omega (arith, s .pre)) (words .ensures) ∙ ap (λ (n : ℕ). wordsIn 2 n (now (s .args .value))) (s .pre .1) in
     subst (λ (r : Blocks). ScrubbedBlock (now (s .args .value)) r (now (s .args .value))) is
     (words-kept (now (s .args .value)) (words .last .1 .0) (scrub .last .0) (scrub .result) (s .pre .0) (λ i. m .before .before .before .before .before .before .before .before .before .before .before .slice-known .given i .fits) taken
     (scrub .ensures) (ap (λ (b : Blocks). b .mended) is))
@@ -33,7 +35,8 @@ returns-2 c =
     let scrub = m .before .before .before .scrub in
     let words = m .before .before .before .before .before .before .before .words in
     let s = m .before .before .before .before .before .before .before .before .before .before .before .before in
-    let taken = words .ensures (omega (arith, s .pre)) ∙ ap (λ (n : ℕ). wordsIn 2 n (now (s .args .value))) (s .pre .1) in
+    let taken =
+    taken-there 2 (now (s .args .value)) (now (s .args .words)) (words .last .1 .0) (omega (arith, s .pre)) (words .ensures) ∙ ap (λ (n : ℕ). wordsIn 2 n (now (s .args .value))) (s .pre .1) in
     subst (λ (r : Blocks). ScrubbedBlock (now (s .args .value)) r (c .before .before .put-words .last .0)) (ap ofAnswer (at .verdict .given .1 ∙ ap Done (x .verdict2 .given .1)))
     (words-written (now (s .args .value)) (words .last .1 .0) (scrub .last .0) (scrub .result) (s .pre .0) (λ i. m .before .before .before .before .before .before .before .before .before .before .before .slice-known .given i .fits) taken
     (scrub .ensures) (c .before .before .put-words .last .0) (c .before .before .put-words .ensures))
@@ -45,7 +48,8 @@ returns-3 c =
     let words = m .before .before .before .before .before .before .before .words in
     let s = m .before .before .before .before .before .before .before .before .before .before .before .before in
     let is = ap ofAnswer (c .enum-told2 .given .1) in
-    let taken = words .ensures (omega (arith, s .pre)) ∙ ap (λ (n : ℕ). wordsIn 2 n (now (s .args .value))) (s .pre .1) in
+    let taken =
+    taken-there 2 (now (s .args .value)) (now (s .args .words)) (words .last .1 .0) (omega (arith, s .pre)) (words .ensures) ∙ ap (λ (n : ℕ). wordsIn 2 n (now (s .args .value))) (s .pre .1) in
     subst (λ (r : Blocks). ScrubbedBlock (now (s .args .value)) r (now (s .args .value))) is
     (words-kept (now (s .args .value)) (words .last .1 .0) (scrub .last .0) (scrub .result) (s .pre .0) (λ i. m .before .before .before .before .before .before .before .before .before .before .before .slice-known .given i .fits) taken
     (scrub .ensures) (ap (λ (b : Blocks). b .mended) is))

@@ -8,6 +8,7 @@ use denote.Ref.{now}
 use Rattle.words.specs.Bytes.{laid}
 use Rattle.words.proofs.Bytes.{laid-none}
 use Rattle.words.proofs.Turns.{place-turn}
+use Rattle.values.proofs.Fits.{copied, not-copied}
 use Rattle.values.proofs.copy.Statement.{statement}
 use Rattle.values.proofs.copy.Tie as tie
 
@@ -17,9 +18,10 @@ Inv-loop bytes to₀ i₀ to i = (i ≤ length bytes) × (to ≡ laid (take i by
 abbrev μ-loop : tie.MeasureT-loop
 μ-loop bytes to₀ i₀ to i = length bytes - i
 
--- where the lengths do not fit, nothing is asked
 nothing : tie.Need-returns Inv-loop μ-loop
-nothing c h = absurd (omega (arith, c .if1 .taken, h))
+nothing c =
+    let a = c .before .args in
+    not-copied (now (a .bytes)) (now (a .to)) (omega (arith, c .if1 .taken))
 
 loop-again : tie.Need-loop-again Inv-loop μ-loop
 loop-again c =
@@ -32,10 +34,11 @@ same-length : tie.Need-same-length Inv-loop μ-loop
 same-length c = c .before .loop .inv .2
 
 returns : tie.Need-returns-2 Inv-loop μ-loop
-returns c h =
+returns c =
     let l = c .before .loop in
     let a = c .before .before .before .args in
-    l .inv .1 ∙ ap (λ b. laid b (now (a .to))) (take-all (l .i) (now (a .bytes)) (omega arith))
+    copied (now (a .bytes)) (now (a .to)) (omega arith)
+    (l .inv .1 ∙ ap (λ b. laid b (now (a .to))) (take-all (l .i) (now (a .bytes)) (omega arith)))
 
 pub copy-spec : {M : Type 1} → statement M
 copy-spec =

@@ -11,6 +11,7 @@ use Rattle.words.specs.Bytes.{wordsIn, laid}
 use Rattle.words.proofs.Lists.{length-part}
 use Rattle.words.proofs.Bytes.{length-words, laid-none, laid-all}
 use Rattle.words.proofs.Turns.{word-there, place-turn}
+use Rattle.values.proofs.Fits.{taken, not-taken}
 use Rattle.values.proofs.grids.Statement.{statement}
 use Rattle.values.proofs.grids.Tie as tie
 
@@ -21,9 +22,10 @@ Inv-loop bytes page₀ i₀ page i =
 abbrev μ-loop : tie.MeasureT-loop
 μ-loop bytes page₀ i₀ page i = length page₀ - i
 
--- where the lengths do not fit, nothing is asked
 nothing : tie.Need-returns Inv-loop μ-loop
-nothing c h = absurd (omega (arith, c .if1 .taken, h))
+nothing c =
+    let a = c .before .before .before .args in
+    not-taken 8 (now (a .bytes)) (now (a .page)) (omega (arith, c .if1 .taken))
 
 grid-at-requires : tie.Need-grid-at-requires Inv-loop μ-loop
 grid-at-requires c κs =
@@ -47,13 +49,14 @@ same-length : tie.Need-same-length Inv-loop μ-loop
 same-length c = c .before .loop .inv .2
 
 returns : tie.Need-returns-2 Inv-loop μ-loop
-returns c h =
+returns c =
     let l = c .before .loop in
     let a = c .before .before .before .before .before .args in
     let n = length (now (a .page)) in
     let ws = wordsIn 8 n (now (a .bytes)) in
     let all : length ws ≤ l .i = omega (arith, length-words 8 n (now (a .bytes))) in
-    l .inv .1 ∙ ap (λ b. laid b (now (a .page))) (take-all (l .i) ws all) ∙ laid-all ws (now (a .page)) (length-words 8 n (now (a .bytes)))
+    taken 8 (now (a .bytes)) (now (a .page)) (omega (arith, c .before .before .if1 .left))
+    (l .inv .1 ∙ ap (λ b. laid b (now (a .page))) (take-all (l .i) ws all) ∙ laid-all ws (now (a .page)) (length-words 8 n (now (a .bytes))))
 
 pub grids-spec : {M : Type 1} → statement M
 grids-spec =

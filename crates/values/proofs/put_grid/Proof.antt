@@ -1,5 +1,6 @@
 -- `values::put_grid` meets its contract: eight stores. Assumes nothing.
 use mathlib.Core.Path.{_≡_, sym, ap, _∙_}
+use Prim.Native.Nat.{_≤_}
 use native.Mathlib.Omega.{arith}
 use lib.ListN.{length, length-set}
 use lib.Seq.{sets}
@@ -7,11 +8,15 @@ use denote.Ref.{now}
 use borrow.Author.Needs.{needs}
 use Rattle.words.proofs.Digits.{listed-getD}
 use Rattle.words.proofs.Turns.{stored}
+use Rattle.values.proofs.Fits.{copied, not-copied}
 use Rattle.values.proofs.put_grid.Statement.{statement}
 use Rattle.values.proofs.put_grid.Tie as tie
 
 nothing : tie.Need-returns
-nothing c h = absurd (omega (arith, c .if1 .taken, h))
+nothing c =
+    let a = c .before .args in
+    let eight : length (a .grid .rows) ≡ 8 = search needs in
+    not-copied (a .grid .rows) (now (a .bytes)) (omega (arith, eight, c .if1 .taken))
 
 slice-write-bytes-2 : tie.Need-slice-write-bytes-2
 slice-write-bytes-2 c = simp length-set (omega arith)
@@ -38,10 +43,12 @@ same-length : tie.Need-same-length
 same-length c = simp length-set
 
 returns : tie.Need-returns-2
-returns c h =
+returns c =
     let a = c .before .before .args in
     let eight : length (a .grid .rows) ≡ 8 = search needs in
-    ap (sets (now (a .bytes)) 0) (sym (listed-getD 8 (a .grid .rows) eight)) ∙ stored (a .grid .rows) (now (a .bytes)) (omega (arith, eight, h))
+    let room : length (a .grid .rows) ≤ length (now (a .bytes)) = omega (arith, eight) in
+    copied (a .grid .rows) (now (a .bytes)) room
+    (ap (sets (now (a .bytes)) 0) (sym (listed-getD 8 (a .grid .rows) eight)) ∙ stored (a .grid .rows) (now (a .bytes)) room)
 
 pub put-grid-spec : {M : Type 1} → statement M
 put-grid-spec =

@@ -1,15 +1,16 @@
 -- `values::put_grids` meets its contract: grid after grid. Assumes nothing.
-use mathlib.Core.Path.{_≡_, refl, sym, ap, _∙_}
+use mathlib.Core.Path.{_≡_, refl, ap, _∙_}
 use Prim.Native.Nat.{_-_, _*_, _≤_, _<_}
 use native.Mathlib.Omega.{arith}
-use lib.ListN.{length, take, drop}
+use lib.ListN.{length, getD, take, drop}
 use lib.Seq.{take-all}
 use denote.Ref.{now}
 use borrow.Author.Needs.{needs}
 use Rattle.words.specs.Bytes.{bytesOf, laid}
+use Rattle.words.proofs.Digits.{length-digits}
 use Rattle.words.proofs.Lists.{length-part}
-use Rattle.words.proofs.Bytes.{length-bytes, laid-all}
 use Rattle.words.proofs.Turns.{no-words, word-turn, length-turn}
+use Rattle.values.proofs.Fits.{put, not-put, copy-there}
 use Rattle.values.proofs.put_grids.Statement.{statement}
 use Rattle.values.proofs.put_grids.Tie as tie
 
@@ -19,9 +20,10 @@ Inv-loop bytes₀ page i₀ bytes i = (i ≤ length page) × (bytes ≡ laid (by
 abbrev μ-loop : tie.MeasureT-loop
 μ-loop bytes₀ page i₀ bytes i = length page - i
 
--- where the lengths do not fit, nothing is asked
 nothing : tie.Need-returns Inv-loop μ-loop
-nothing c h = absurd (omega (arith, c .if1 .taken, h))
+nothing c =
+    let a = c .before .before .before .args in
+    not-put 8 (now (a .bytes)) (now (a .page)) (omega (arith, c .if1 .taken))
 
 loop-again : tie.Need-loop-again Inv-loop μ-loop
 loop-again c =
@@ -29,22 +31,27 @@ loop-again c =
     let s = c .before .before .before .before .before .before .before .before .before .before .before in
     let more : l .i < length (now (s .args .page)) = omega arith in
     let room : 8 * length (now (s .args .page)) ≤ length (now (s .args .bytes)) = omega (arith, c .before .before .before .before .before .before .before .before .if1 .left) in
-    let put = c .before .before .put-grid in
+    let here = c .before .before .put-grid in
     let long = length-part (8 * l .i) (l .bytes) in
-    let turn = word-turn 8 (now (s .args .page)) (now (s .args .bytes)) (l .bytes) (l .i) (put .last .0) more room (l .inv .1) (put .ensures (omega (arith, long, room)) ∙ ap (λ b. laid b (take (length (l .bytes) - 8 * l .i) (drop (8 * l .i) (l .bytes)))) (c .before .before .before .of-number .ensures .answer)) in
-    (omega arith, turn, ap length turn ∙ length-turn 8 (now (s .args .page)) (now (s .args .bytes)) (l .bytes) (l .i) (put .last .0) more room)
+    let rows = c .before .before .before .of-number .result .rows in
+    let is = c .before .before .before .of-number .ensures .answer in
+    let eight : length rows ≡ 8 = ap length is ∙ length-digits 8 8 (getD (now (s .args .page)) (l .i) 0) in
+    let part = take (length (l .bytes) - 8 * l .i) (drop (8 * l .i) (l .bytes)) in
+    let turn =
+    word-turn 8 (now (s .args .page)) (now (s .args .bytes)) (l .bytes) (l .i) (here .last .0) more room (l .inv .1)
+    (copy-there rows part (here .last .0) (omega (arith, long, room, eight)) (here .ensures) ∙ ap (λ b. laid b part) is) in
+    (omega arith, turn, ap length turn ∙ length-turn 8 (now (s .args .page)) (now (s .args .bytes)) (l .bytes) (l .i) (here .last .0) more room)
 
 same-length : tie.Need-same-length Inv-loop μ-loop
 same-length c = c .before .loop .inv .2
 
 returns : tie.Need-returns-2 Inv-loop μ-loop
-returns c h =
+returns c =
     let l = c .before .loop in
     let s = c .before .before .before .before .before in
     let ws = now (s .args .page) in
     let all : take (l .i) ws ≡ ws = take-all (l .i) ws (omega arith) in
-    l .inv .1 ∙ ap (λ b. laid (bytesOf 8 b) (now (s .args .bytes))) all
-    ∙ laid-all (bytesOf 8 ws) (now (s .args .bytes)) (length-bytes 8 ws ∙ sym h)
+    put 8 (now (s .args .bytes)) ws (omega (arith, c .before .before .if1 .left)) (l .inv .1 ∙ ap (λ b. laid (bytesOf 8 b) (now (s .args .bytes))) all)
 
 pub put-grids-spec : {M : Type 1} → statement M
 put-grids-spec =

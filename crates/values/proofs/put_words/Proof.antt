@@ -1,5 +1,5 @@
 -- `values::put_words` meets its contract: word after word. Assumes nothing.
-use mathlib.Core.Path.{_≡_, refl, sym, ap, _∙_}
+use mathlib.Core.Path.{_≡_, refl, ap, _∙_}
 use Prim.Native.Nat.{_-_, _*_, _≤_, _<_}
 use native.Mathlib.Omega.{arith}
 use lib.ListN.{length, take}
@@ -8,8 +8,8 @@ use denote.Ref.{now}
 use borrow.Author.Needs.{needs}
 use Rattle.words.specs.Bytes.{bytesOf, laid}
 use Rattle.words.proofs.Lists.{length-part}
-use Rattle.words.proofs.Bytes.{length-bytes, laid-all}
 use Rattle.words.proofs.Turns.{no-words, word-turn, length-turn}
+use Rattle.values.proofs.Fits.{put, not-put}
 use Rattle.values.proofs.put_words.Statement.{statement}
 use Rattle.values.proofs.put_words.Tie as tie
 
@@ -19,9 +19,10 @@ Inv-loop bytes₀ words i₀ bytes i = (i ≤ length words) × (bytes ≡ laid (
 abbrev μ-loop : tie.MeasureT-loop
 μ-loop bytes₀ words i₀ bytes i = length words - i
 
--- where the lengths do not fit, nothing is asked
 nothing : tie.Need-returns Inv-loop μ-loop
-nothing c h = absurd (omega (arith, c .if1 .taken, h))
+nothing c =
+    let a = c .before .before .before .args in
+    not-put 2 (now (a .bytes)) (now (a .words)) (omega (arith, c .if1 .taken))
 
 put-word-requires : tie.Need-put-word-requires Inv-loop μ-loop
 put-word-requires c κs =
@@ -34,21 +35,20 @@ loop-again c =
     let s = c .before .before .before .before .before .before .before .before .before .before in
     let more : l .i < length (now (s .args .words)) = omega arith in
     let room : 2 * length (now (s .args .words)) ≤ length (now (s .args .bytes)) = omega (arith, c .before .before .before .before .before .before .before .if1 .left) in
-    let put = c .before .before .put-word in
-    let turn = word-turn 2 (now (s .args .words)) (now (s .args .bytes)) (l .bytes) (l .i) (put .last .0) more room (l .inv .1) (put .ensures) in
-    (omega arith, turn, ap length turn ∙ length-turn 2 (now (s .args .words)) (now (s .args .bytes)) (l .bytes) (l .i) (put .last .0) more room)
+    let here = c .before .before .put-word in
+    let turn = word-turn 2 (now (s .args .words)) (now (s .args .bytes)) (l .bytes) (l .i) (here .last .0) more room (l .inv .1) (here .ensures) in
+    (omega arith, turn, ap length turn ∙ length-turn 2 (now (s .args .words)) (now (s .args .bytes)) (l .bytes) (l .i) (here .last .0) more room)
 
 same-length : tie.Need-same-length Inv-loop μ-loop
 same-length c = c .before .loop .inv .2
 
 returns : tie.Need-returns-2 Inv-loop μ-loop
-returns c h =
+returns c =
     let l = c .before .loop in
     let s = c .before .before .before .before .before in
     let ws = now (s .args .words) in
     let all : take (l .i) ws ≡ ws = take-all (l .i) ws (omega arith) in
-    l .inv .1 ∙ ap (λ b. laid (bytesOf 2 b) (now (s .args .bytes))) all
-    ∙ laid-all (bytesOf 2 ws) (now (s .args .bytes)) (length-bytes 2 ws ∙ sym h)
+    put 2 (now (s .args .bytes)) ws (omega (arith, c .before .before .if1 .left)) (l .inv .1 ∙ ap (λ b. laid (bytesOf 2 b) (now (s .args .bytes))) all)
 
 pub put-words-spec : {M : Type 1} → statement M
 put-words-spec =

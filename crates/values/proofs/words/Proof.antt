@@ -10,6 +10,7 @@ use Rattle.words.specs.Bytes.{wordsIn, laid}
 use Rattle.words.proofs.Lists.{length-part}
 use Rattle.words.proofs.Bytes.{length-words, laid-none, laid-all}
 use Rattle.words.proofs.Turns.{word-there, place-turn}
+use Rattle.values.proofs.Fits.{taken, not-taken}
 use Rattle.values.proofs.words.Statement.{statement}
 use Rattle.values.proofs.words.Tie as tie
 
@@ -20,9 +21,10 @@ Inv-loop bytes words₀ i₀ words i =
 abbrev μ-loop : tie.MeasureT-loop
 μ-loop bytes words₀ i₀ words i = length words₀ - i
 
--- where the lengths do not fit, nothing is asked
 nothing : tie.Need-returns Inv-loop μ-loop
-nothing c h = absurd (omega (arith, c .if1 .taken, h))
+nothing c =
+    let a = c .before .before .before .args in
+    not-taken 2 (now (a .bytes)) (now (a .words)) (omega (arith, c .if1 .taken))
 
 word-at-requires : tie.Need-word-at-requires Inv-loop μ-loop
 word-at-requires c κs =
@@ -46,13 +48,14 @@ same-length : tie.Need-same-length Inv-loop μ-loop
 same-length c = c .before .loop .inv .2
 
 returns : tie.Need-returns-2 Inv-loop μ-loop
-returns c h =
+returns c =
     let l = c .before .loop in
     let a = c .before .before .before .before .before .args in
     let n = length (now (a .words)) in
     let ws = wordsIn 2 n (now (a .bytes)) in
     let all : length ws ≤ l .i = omega (arith, length-words 2 n (now (a .bytes))) in
-    l .inv .1 ∙ ap (λ b. laid b (now (a .words))) (take-all (l .i) ws all) ∙ laid-all ws (now (a .words)) (length-words 2 n (now (a .bytes)))
+    taken 2 (now (a .bytes)) (now (a .words)) (omega (arith, c .before .before .if1 .left))
+    (l .inv .1 ∙ ap (λ b. laid b (now (a .words))) (take-all (l .i) ws all) ∙ laid-all ws (now (a .words)) (length-words 2 n (now (a .bytes))))
 
 pub words-spec : {M : Type 1} → statement M
 words-spec =
