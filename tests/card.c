@@ -18,7 +18,9 @@ int fclose(void *);
 enum { TALLY = TALLIES / 2, SETS = sizeof sets / sizeof *sets };
 
 static struct test again = {.name = "image scrub, a second time"};
-static struct test plain = {.name = "the plain version's image scrub, the same images"};
+static struct test plain_checked = {.name = "the plain version's image check, the same images"};
+static struct test plain_read_back = {.name = "the plain version's image read, the same images"};
+static struct test plain_scrubbed = {.name = "the plain version's image scrub, the same images"};
 
 /* how many images came before */
 static uint64_t number;
@@ -33,26 +35,33 @@ static void lend(struct state *s, const struct image *im, struct lengths lengths
 
 static void check(struct test *t, const struct state *lent)
 {
-    static struct state library, second;
+    static struct state library, second, plainly;
     copy_state(&library, lent);
     copy_state(&second, lent);
+    copy_state(&plainly, lent);
     library.returned = image_check(image_in(&library), library.lengths.image);
     struct image_answer a = second_image_check(image_in(&second), second.lengths.image);
     second.returned = image_number(a, a.grids | a.blocks << 16);
+    plainly.returned = plain_image_check(image_in(&plainly), plainly.lengths.image);
+    compare_states(&plain_checked, &plainly, &second, number);
     compare_states(t, &library, &second, number);
 }
 
 static void read_back(struct test *t, const struct state *lent)
 {
-    static struct state library, second;
+    static struct state library, second, plainly;
     struct lengths n = lent->lengths;
     copy_state(&library, lent);
     copy_state(&second, lent);
+    copy_state(&plainly, lent);
     library.returned = image_read(image_in(&library), n.image, title_in(&library), n.title, data_in(&library), n.data, flips_in(&library),
                                   n.flips);
     struct image_answer a = second_image_read(image_in(&second), n.image, title_in(&second), n.title, data_in(&second), n.data,
                                               flips_in(&second), n.flips);
     second.returned = image_number(a, a.title | a.grids << 16);
+    plainly.returned = plain_image_read(image_in(&plainly), n.image, title_in(&plainly), n.title, data_in(&plainly), n.data,
+                                        flips_in(&plainly), n.flips);
+    compare_states(&plain_read_back, &plainly, &second, number);
     compare_states(t, &library, &second, number);
 }
 
@@ -80,7 +89,7 @@ static void scrub(struct test *t, const struct state *lent)
     library.returned = image_scrub(image_in(&library), library.lengths.image, tallies_in(&library), TALLIES);
     second.returned = image_number(second_image_scrub(image_in(&second), second.lengths.image, tallies_in(&second)), 0);
     plainly.returned = plain_image_scrub(image_in(&plainly), plainly.lengths.image, tallies_in(&plainly));
-    compare_states(&plain, &plainly, &second, number);
+    compare_states(&plain_scrubbed, &plainly, &second, number);
     scrub_again(&library);
     flip(&library, flip_library);
     flip(&second, flip_second);
@@ -212,7 +221,9 @@ static void all(void)
     use_set(try_tallies, (struct set){"image scrub, tallies of other lengths", some_of_each});
     worked_image();
     report_drawn(again);
-    report_drawn(plain);
+    report_drawn(plain_checked);
+    report_drawn(plain_read_back);
+    report_drawn(plain_scrubbed);
 }
 
 int main(int n, char **words)

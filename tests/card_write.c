@@ -4,6 +4,7 @@
 #include "flip.h"
 #include "forms.h"
 #include "library.h"
+#include "plain.h"
 #include "room.h"
 #include "second_card.h"
 
@@ -11,6 +12,8 @@ enum { LONGEST_TITLE = 24, MOST_NUMBERS = 512, LONGEST_ROOM = 40000, LONGEST_WRI
 
 /* document 01's numbers for lengths, title bytes and room, as the library returns them */
 static const uint64_t LENGTH = (uint64_t)3 << 32, TITLE_BYTE = (uint64_t)4 << 32, TOO_SHORT = (uint64_t)6 << 32;
+
+static struct test plain = {.name = "the plain version's image write, the same titles, numbers and rooms"};
 
 /* slices of these lengths; the title has good bytes, the numbers and what stands in the room are any */
 static void lend(struct state *s, uint64_t title, uint64_t numbers, uint64_t room)
@@ -20,16 +23,19 @@ static void lend(struct state *s, uint64_t title, uint64_t numbers, uint64_t roo
         title_in(s)[k] = (uint8_t)(0x20 + draw() % 95);
 }
 
-/* both write; and what is to be returned is known beforehand */
+/* all three write; and what is to be returned is known beforehand */
 static void try_write(struct test *t, const struct state *lent, uint64_t expected)
 {
-    static struct state library, second;
+    static struct state library, second, plainly;
     struct lengths n = lent->lengths;
     copy_state(&library, lent);
     copy_state(&second, lent);
+    copy_state(&plainly, lent);
     library.returned = image_write(title_in(&library), n.title, data_in(&library), n.data, image_in(&library), n.image);
     struct image_answer a = second_image_write(title_in(&second), n.title, data_in(&second), n.data, image_in(&second), n.image);
     second.returned = image_number(a, a.written);
+    plainly.returned = plain_image_write(title_in(&plainly), n.title, data_in(&plainly), n.data, image_in(&plainly), n.image);
+    compare_states(&plain, &plainly, &second, t->compared);
     compare(t, second.returned, expected, t->compared);
     flip(&library, flip_library);
     flip(&second, flip_second);
@@ -161,6 +167,7 @@ static void all(void)
     title_bytes();
     order();
     written();
+    report_drawn(plain);
 }
 
 int main(int n, char **words)

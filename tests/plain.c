@@ -1,7 +1,8 @@
-/* The plain version's grid and page: where a word is not the codeword of its data, its rows are mended, some set aside, in two trials. */
+/* The plain version's grid and page, and grids as bytes: where a word is not the codeword of its data, its rows are mended, some set aside,
+   in two trials. */
 #include "plain.h"
 
-enum { RADIUS = 7, LONGEST_PAGE = 512, LENGTH_NOT_ALLOWED = 3, LOST = 1 << 24 };
+enum { RADIUS = 7, LONGEST_PAGE = 512, LENGTH_NOT_ALLOWED = 3, LOST = 1 << 24, LOST_FLIPS = 255 };
 
 /* The row with given data places. A row's check is what its check places have beyond that row's; the flips that leave a check are one if
    the check has an odd number of ones, two if it has an even number other than 0. */
@@ -144,6 +145,25 @@ void plain_scrub_bytes(uint8_t *grids, uint64_t n, uint32_t tally[5])
     tally[2] += (uint32_t)n - clean - lost;
     tally[3] += lost;
     tally[4] += flips;
+}
+
+void plain_encode_bytes(const uint16_t *data, uint64_t n, uint8_t *grids)
+{
+    for (uint64_t k = 0; k < n; k++) {
+        uint64_t grid = plain_grid(data[k]);
+        __builtin_memcpy(grids + 8 * k, &grid, sizeof grid);
+    }
+}
+
+void plain_decode_bytes(const uint8_t *grids, uint64_t n, uint16_t *data, uint8_t *flips)
+{
+    for (uint64_t k = 0; k < n; k++) {
+        uint64_t word, repaired;
+        __builtin_memcpy(&word, grids + 8 * k, sizeof word);
+        uint64_t v = encode_again(word) == word ? verdict(word, 0) : mend(word, &repaired);
+        data[k] = (uint16_t)v;
+        flips[k] = v == LOST ? LOST_FLIPS : (uint8_t)(v >> 16);
+    }
 }
 
 uint32_t plain_scrub(uint64_t *page, uint64_t n, uint32_t tally[5])

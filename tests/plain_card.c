@@ -1,37 +1,62 @@
-/* The plain version's scrub of an image: all of it is checked before anything is altered. */
+/* The plain version's card image: check, scrub, write and read back. All of an image is checked before anything is written. */
 #include "plain.h"
 
 enum { TITLE = 0x01, GRIDS = 0x02, BLOCK = 0x03, END = 0x7F };
-enum { LONGEST_IMAGE = 32768, LONGEST_TITLE = 24, LONGEST_GRIDS = 4096, MOST_DATA_FIELDS = 16 };
+enum { LONGEST_IMAGE = 32768, LONGEST_TITLE = 24, LONGEST_GRIDS = 4096, MOST_DATA_FIELDS = 16, MOST_NUMBERS = 512 };
 enum { HEAD = 3, GRID_BYTES = 8, BLOCK_WORDS = 38, BLOCK_BYTES = 76 };
 
-static const uint64_t LENGTH_NOT_ALLOWED = (uint64_t)3 << 32, BROKEN = (uint64_t)4 << 32;
+static const uint64_t LENGTH_NOT_ALLOWED = (uint64_t)3 << 32, BROKEN = (uint64_t)4 << 32, TOO_SHORT = (uint64_t)6 << 32;
+
+static inline int is_refusal(uint64_t answer)
+{
+    return answer >> 32 != 0;
+}
 
 static inline uint32_t length_at(const uint8_t *field)
 {
     return (uint32_t)field[1] << 8 | field[2];
 }
 
-/* The refusal, with the place of the first break; 0 if there is none. */
-static uint64_t check(const uint8_t *image, uint64_t n)
+/* The place of the first byte that no title has, or the length. */
+static inline uint32_t first_bad(const uint8_t *title, uint32_t length)
 {
+    uint32_t p = 0;
+    while (p < length && (uint32_t)title[p] - 0x20 <= 0x7E - 0x20)
+        p++;
+    return p;
+}
+
+static inline uint8_t *put_head(uint8_t *to, uint32_t tag, uint32_t length)
+{
+    to[0] = (uint8_t)tag;
+    to[1] = (uint8_t)(length >> 8);
+    to[2] = (uint8_t)length;
+    return to + HEAD;
+}
+
+uint64_t plain_image_check(const uint8_t *image, uint64_t n)
+{
+    if (n > LONGEST_IMAGE)
+        return LENGTH_NOT_ALLOWED;
     if (n < HEAD || image[0] != TITLE)
         return BROKEN;
-    uint32_t title = length_at(image), data_fields = 0;
-    if (title - 1 >= LONGEST_TITLE || HEAD + title > n)
+    uint32_t title = length_at(image), left = MOST_DATA_FIELDS, grids = 0, blocks = 0;
+    if (title - 1 >= LONGEST_TITLE || HEAD + title > n || first_bad(image + HEAD, title) < title)
         return BROKEN;
-    for (uint32_t k = 0; k < title; k++)
-        if ((uint32_t)image[HEAD + k] - 0x20 > 0x7E - 0x20)
-            return BROKEN;
 
     for (uint64_t at = HEAD + title;;) {
         if (n - at < HEAD)
             return BROKEN | at;
         uint32_t tag = image[at], length = length_at(image + at);
-        if (tag == END && length == 0)
-            return at + HEAD == n ? 0 : BROKEN | (at + HEAD);
-        int allowed = tag == GRIDS ? length <= LONGEST_GRIDS && length % GRID_BYTES == 0 : tag == BLOCK && length == BLOCK_BYTES;
-        if (!allowed || data_fields++ == MOST_DATA_FIELDS || length > n - at - HEAD)
+        if (tag == GRIDS && length <= LONGEST_GRIDS && length % GRID_BYTES == 0)
+            grids += length / GRID_BYTES;
+        else if (tag == BLOCK && length == BLOCK_BYTES)
+            blocks++;
+        else if (tag == END && length == 0)
+            return at + HEAD == n ? grids | blocks << 16 : BROKEN | (at + HEAD);
+        else
+            return BROKEN | at;
+        if (left-- == 0 || length > n - at - HEAD)
             return BROKEN | at;
         at += HEAD + length;
     }
@@ -57,9 +82,9 @@ static void scrub_block(uint8_t *bytes, uint32_t tally[5])
 
 uint64_t plain_image_scrub(uint8_t *image, uint64_t n, uint32_t tallies[10])
 {
-    uint64_t refused = n > LONGEST_IMAGE ? LENGTH_NOT_ALLOWED : check(image, n);
-    if (refused != 0)
-        return refused;
+    uint64_t checked = plain_image_check(image, n);
+    if (is_refusal(checked))
+        return checked;
     for (unsigned k = 0; k < 10; k++)
         tallies[k] = 0;
     for (uint8_t *field = image; *field != END; field += HEAD + length_at(field))
@@ -68,4 +93,44 @@ uint64_t plain_image_scrub(uint8_t *image, uint64_t n, uint32_t tallies[10])
         else if (*field == BLOCK)
             scrub_block(field + HEAD, tallies + 5);
     return 0;
+}
+
+uint64_t plain_image_write(const uint8_t *title, uint64_t t, const uint16_t *numbers, uint64_t k, uint8_t *image, uint64_t n)
+{
+    if (t - 1 >= LONGEST_TITLE || k > MOST_NUMBERS)
+        return LENGTH_NOT_ALLOWED;
+    uint32_t bad = first_bad(title, (uint32_t)t);
+    uint64_t needed = 3 * HEAD + t + GRID_BYTES * k;
+    if (bad < t)
+        return BROKEN | bad;
+    if (n < needed)
+        return TOO_SHORT;
+    uint8_t *to = put_head(image, TITLE, (uint32_t)t);
+    for (uint64_t p = 0; p < t; p++)
+        *to++ = title[p];
+    to = put_head(to, GRIDS, (uint32_t)(GRID_BYTES * k));
+    plain_encode_bytes(numbers, k, to);
+    put_head(to + GRID_BYTES * k, END, 0);
+    return needed;
+}
+
+uint64_t plain_image_read(const uint8_t *image, uint64_t n, uint8_t *title, uint64_t t, uint16_t *data, uint64_t d, uint8_t *flips,
+                          uint64_t f)
+{
+    uint64_t checked = plain_image_check(image, n);
+    if (is_refusal(checked))
+        return checked;
+    uint32_t length = length_at(image), grids = checked & 0xFFFF;
+    if (t < length || d < grids || f < grids)
+        return TOO_SHORT;
+    for (uint32_t p = 0; p < length; p++)
+        title[p] = image[HEAD + p];
+    for (const uint8_t *field = image; *field != END; field += HEAD + length_at(field))
+        if (*field == GRIDS) {
+            uint32_t k = length_at(field) / GRID_BYTES;
+            plain_decode_bytes(field + HEAD, k, data, flips);
+            data += k;
+            flips += k;
+        }
+    return length | grids << 16;
 }
