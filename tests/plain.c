@@ -160,9 +160,14 @@ void plain_decode_bytes(const uint8_t *grids, uint64_t n, uint16_t *data, uint8_
     for (uint64_t k = 0; k < n; k++) {
         uint64_t word, repaired;
         __builtin_memcpy(&word, grids + 8 * k, sizeof word);
-        uint64_t v = encode_again(word) == word ? verdict(word, 0) : mend(word, &repaired);
-        data[k] = (uint16_t)v;
-        flips[k] = v == LOST ? LOST_FLIPS : (uint8_t)(v >> 16);
+        if (encode_again(word) == word) {
+            data[k] = (uint16_t)verdict(word, 0);
+            flips[k] = 0;
+        } else {
+            uint64_t v = mend(word, &repaired);
+            data[k] = (uint16_t)v;
+            flips[k] = v == LOST ? LOST_FLIPS : (uint8_t)(v >> 16);
+        }
     }
 }
 

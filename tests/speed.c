@@ -1,35 +1,28 @@
 /* One operation many times, for counting its instructions: `speed SIDE OPERATION COUNT`, where SIDE is `library` or `plain`, and COUNT a
-   multiple of how many are made at a time: 4091 for `image-clean`, 200 for blocks, 1000 for all others. */
+   multiple of how many are made at a time: 4091 for `image-clean`, 512 for `image-write` and `image-read`, 200 for blocks, 1000 for all
+   others. */
 #include "draw.h"
 #include "library.h"
 #include "plain.h"
+#include "speed_card.h"
 
 int atoi(const char *);
 int strcmp(const char *, const char *);
-void *memcpy(void *, const void *, unsigned long);
 
 enum { WORDS = 1000, PAGE = 500, NUMBERS = 5, BLOCKS = 200, BLOCK_DATA = 32, BLOCK_WORDS = 38 };
 
-/* the longest image: a title of ten bytes, and 4,091 grids in eight fields, all of them full but for the last */
-enum { IMAGE = 32768, IMAGE_GRIDS = 4091, FIELD_GRIDS = 512, TALLIES = 10 };
-
 /* An answer is the flips, and from bit 8 on document 01's number, for a word and a block alike; for a grid of a page or of an image it is
-   1 if clean. */
+   1 if clean, for the check of an image what that returns, and for a number that is written or read back 1. */
 enum { GRID_LOST = 1 << 8, BLOCK_LOST = 2 << 8 };
 
 /* what is decoded and scrubbed, and the answers */
 static uint64_t words[WORDS], verdicts[WORDS], repaired[WORDS];
-static uint8_t image[IMAGE];
-static uint32_t tally[TALLIES];
 static struct block {
     uint16_t words[BLOCK_WORDS];
 } blocks[BLOCKS], block;
-static uint32_t returned;
 
-static uint16_t value(uint32_t k)
-{
-    return (uint16_t)(k * 40503);
-}
+/* the places that are flipped in every grid */
+static uint64_t flips;
 
 static void library_encoding(uint32_t n)
 {
@@ -100,16 +93,17 @@ static void plain_block_scrubbing(uint32_t n)
         }
 }
 
-static void library_image_scrubbing(uint32_t n)
+static void prepare_words(void)
 {
-    for (; n >= IMAGE_GRIDS; n -= IMAGE_GRIDS)
-        returned += (uint32_t)(image_scrub(image, IMAGE, tally, TALLIES) >> 32);
+    for (uint32_t w = 0; w < WORDS; w++)
+        words[w] = plain_grid(value(w)) ^ flips;
 }
 
-static void plain_image_scrubbing(uint32_t n)
+static void prepare_blocks(void)
 {
-    for (; n >= IMAGE_GRIDS; n -= IMAGE_GRIDS)
-        returned += (uint32_t)(plain_image_scrub(image, IMAGE, tally) >> 32);
+    for (uint32_t k = 0; k < BLOCKS; k++)
+        for (unsigned w = 0; w < BLOCK_WORDS; w++)
+            blocks[k].words[w] = (uint16_t)draw();
 }
 
 typedef void operation(uint32_t);
@@ -126,26 +120,34 @@ static const struct kind scrubbing = {library_scrubbing, plain_scrubbing, PAGE};
 static const struct kind block_encoding = {library_block_encoding, plain_block_encoding, BLOCKS};
 static const struct kind block_scrubbing = {library_block_scrubbing, plain_block_scrubbing, BLOCKS};
 static const struct kind image_scrubbing = {library_image_scrubbing, plain_image_scrubbing, IMAGE_GRIDS};
+static const struct kind image_checking = {library_image_checking, plain_image_checking, 1};
+static const struct kind image_writing = {library_image_writing, plain_image_writing, WRITTEN_NUMBERS};
+static const struct kind image_reading = {library_image_reading, plain_image_reading, WRITTEN_NUMBERS};
 
-/* Each with what every answer has to be, and the places that are flipped in every grid. From `clean` to `lost` a word is decoded;
-   `page-clean` is for one grid of a page, `image-clean` for one of an image. The blocks are any words. */
+/* Each with what it works on, what every answer has to be, and the places that are flipped in every grid. From `clean` to `lost` a word is
+   decoded; `page-clean` is for one grid of a page, `image-clean` for one of an image. The blocks are any words. */
 static const struct {
     const char *name;
     const struct kind *kind;
+    void (*prepare)(void);
     uint32_t answer;
     uint64_t flips;
 } operations[] = {
-    {"encode", &encoding, 0, 0},
-    {"clean", &decoding, 0, 0},
-    {"flip-1", &decoding, 1, 0x0000000000000001},
-    {"flip-3", &decoding, 3, 0x0000400002000001},
-    {"flip-7", &decoding, 7, 0x0102040810204000},
-    {"both-trials", &decoding, 6, 0x0000000000070007},
-    {"lost", &decoding, GRID_LOST, 0x000000B1000000B1},
-    {"page-clean", &scrubbing, 1, 0},
-    {"image-clean", &image_scrubbing, 1, 0},
-    {"block-encode", &block_encoding, 0, 0},
-    {"block-random", &block_scrubbing, BLOCK_LOST, 0},
+    {"encode", &encoding, prepare_words, 0, 0},
+    {"clean", &decoding, prepare_words, 0, 0},
+    {"flip-1", &decoding, prepare_words, 1, 0x0000000000000001},
+    {"flip-3", &decoding, prepare_words, 3, 0x0000400002000001},
+    {"flip-7", &decoding, prepare_words, 7, 0x0102040810204000},
+    {"both-trials", &decoding, prepare_words, 6, 0x0000000000070007},
+    {"lost", &decoding, prepare_words, GRID_LOST, 0x000000B1000000B1},
+    {"page-clean", &scrubbing, prepare_words, 1, 0},
+    {"image-clean", &image_scrubbing, prepare_longest, 1, 0},
+    {"image-check-8", &image_checking, prepare_longest, IMAGE_GRIDS, 0},
+    {"image-check-16", &image_checking, prepare_sixteen, 16 | 8 << 16, 0},
+    {"image-write", &image_writing, prepare_written, 1, 0},
+    {"image-read", &image_reading, prepare_written, 1, 0},
+    {"block-encode", &block_encoding, prepare_blocks, 0, 0},
+    {"block-random", &block_scrubbing, prepare_blocks, BLOCK_LOST, 0},
 };
 
 /* The other block scrubs, each with its answer and with what is flipped in every block, in up to three words. Where the name does not
@@ -173,51 +175,15 @@ static const struct {
     {"block-lost", BLOCK_LOST, {{5, 1 << 7}, {9, 1 << 11}, {14, 1 << 2}}},
 };
 
-static void prepare_words(uint64_t flips)
-{
-    for (uint32_t w = 0; w < WORDS; w++)
-        words[w] = plain_grid(value(w)) ^ flips;
-}
-
-static void prepare_blocks(void)
-{
-    for (uint32_t k = 0; k < BLOCKS; k++)
-        for (unsigned w = 0; w < BLOCK_WORDS; w++)
-            blocks[k].words[w] = (uint16_t)draw();
-}
-
-static void prepare_image(void)
-{
-    uint8_t *to = image;
-    memcpy(to, "\x01\x00\x0A" "Mira Stern", 13);
-    to += 13;
-    for (uint32_t k = 0; k < IMAGE_GRIDS; k++, to += sizeof(uint64_t)) {
-        if (k % FIELD_GRIDS == 0) {
-            uint32_t left = IMAGE_GRIDS - k, length = 8 * (left < FIELD_GRIDS ? left : FIELD_GRIDS);
-            *to++ = 0x02;
-            *to++ = (uint8_t)(length >> 8);
-            *to++ = (uint8_t)length;
-        }
-        uint64_t grid = plain_grid(value(k));
-        memcpy(to, &grid, sizeof grid);
-    }
-    memcpy(to, "\x7F\x00\x00", 3);
-}
-
 /* the kind of the operation of that name, and what its answer has to be, when what it works on is there; 0 if there is none */
 static const struct kind *prepared(const char *name, uint32_t *answer)
 {
     for (unsigned o = 0; o < sizeof operations / sizeof *operations; o++)
         if (strcmp(name, operations[o].name) == 0) {
-            const struct kind *kind = operations[o].kind;
-            if (kind == &image_scrubbing)
-                prepare_image();
-            else if (kind == &block_encoding || kind == &block_scrubbing)
-                prepare_blocks();
-            else
-                prepare_words(operations[o].flips);
+            flips = operations[o].flips;
+            operations[o].prepare();
             *answer = operations[o].answer;
-            return kind;
+            return operations[o].kind;
         }
     for (unsigned o = 0; o < sizeof block_scrubs / sizeof *block_scrubs; o++)
         if (strcmp(name, block_scrubs[o].name) == 0) {
@@ -233,12 +199,14 @@ static const struct kind *prepared(const char *name, uint32_t *answer)
     return 0;
 }
 
-/* the sum of the answers */
+/* the sum of the answers; what is read back is to have no flips */
 static uint32_t answers(void)
 {
     uint32_t sum = tally[1] + returned;
     for (uint32_t w = 0; w < WORDS; w++)
         sum += (uint32_t)(verdicts[w] >> 16);
+    for (uint32_t k = 0; k < WRITTEN_NUMBERS; k++)
+        sum += read_flips[k];
     return sum;
 }
 
