@@ -1,0 +1,244 @@
+/* Bytes of stack: `stack SIDE CALL` prints how many a call needs at most, over the images, pages, blocks and words on which it is made
+   here; SIDE is `library` or `plain`. The images are those of the test `card`, and more that have as many data fields as there can be. */
+#include "stack.h"
+#include "forms.h"
+#include "images.h"
+#include "library.h"
+#include "plain.h"
+
+int strcmp(const char *, const char *);
+int dprintf(int, const char *, ...);
+
+enum { ROUNDS = 20, PAGE = 512, NUMBERS = 5, TALLIES = 10, BLOCK_DATA = 32, MOST_NUMBERS = 512, MOST_GRIDS = LONGEST_IMAGE / GRID_BYTES };
+
+static const uint64_t ALL = UINT64_MAX, LOW = UINT32_MAX, NONE = 0;
+static const uint64_t LENGTH_NOT_ALLOWED = 3, TOO_SHORT = (uint64_t)6 << 32;
+
+/* What is flipped in a grid, and its verdict from bit 16 on: clean; mended after one, three and seven flips, and by the second trial;
+   lost. */
+static const struct {
+    uint64_t flips, verdict;
+} kinds[] = {{0, 0}, {0x0000000000000001, 1}, {0x0000400002000001, 3}, {0x0102040810204000, 7}, {0x0000000000070007, 6},
+             {0x000000B1000000B1, 1 << 8}};
+enum { KINDS = sizeof kinds / sizeof *kinds };
+
+/* what the calls write to */
+static uint64_t verdicts[PAGE], repaired[PAGE];
+static uint32_t tallies[TALLIES];
+static uint16_t data[MOST_GRIDS];
+static uint8_t title[LONGEST_TITLE + 1], flips[MOST_GRIDS];
+
+static void encode_grids(struct test *t)
+{
+    for (unsigned k = 0; k < MANY; k++) {
+        uint16_t value = (uint16_t)draw();
+        make_call(t, room, 0, (uint64_t[ARGUMENTS]){value}, second_grid(value));
+    }
+}
+
+/* a page of each kind, and pages of all kinds and of any words */
+static void draw_page(uint64_t page[PAGE + 1], unsigned round)
+{
+    for (unsigned k = 0; k <= PAGE; k++)
+        page[k] = round < KINDS ? second_grid((uint16_t)draw()) ^ kinds[round].flips : draw_grid();
+}
+
+static void decode_grids(struct test *t)
+{
+    const uint64_t library[ARGUMENTS] = {address(room), PAGE, address(verdicts), PAGE, address(repaired), PAGE};
+    const uint64_t plain[ARGUMENTS] = {address(room), PAGE, address(verdicts), address(repaired)};
+    uint64_t words[PAGE + 1];
+    for (unsigned round = 0; round < ROUNDS; round++) {
+        draw_page(words, round);
+        make_call(t, words, sizeof words, called == (function *)plain_decode ? plain : library, 0);
+        if (round < KINDS)
+            compare(t, verdicts[PAGE - 1] >> 16, kinds[round].verdict, t->compared);
+    }
+}
+
+static void scrub_pages(struct test *t)
+{
+    static const uint64_t lengths[] = {0, 1, PAGE - 1, PAGE, PAGE + 1};
+    uint64_t page[PAGE + 1];
+    for (unsigned round = 0; round < ROUNDS; round++)
+        for (unsigned k = 0; k < sizeof lengths / sizeof *lengths; k++) {
+            draw_page(page, round);
+            make_call(t, page, sizeof page, (uint64_t[ARGUMENTS]){address(room), lengths[k], address(tallies), NUMBERS},
+                      lengths[k] > PAGE ? LENGTH_NOT_ALLOWED : 0);
+        }
+}
+
+static void draw_words(uint16_t words[BLOCK_WORDS])
+{
+    for (unsigned k = 0; k < BLOCK_WORDS; k++)
+        words[k] = (uint16_t)draw();
+}
+
+static void encode_blocks(struct test *t)
+{
+    uint16_t words[BLOCK_WORDS];
+    for (unsigned k = 0; k < SOME; k++)
+        for (uint64_t n = BLOCK_DATA - 1; n <= BLOCK_DATA; n++) {
+            draw_words(words);
+            make_call(t, words, sizeof words, (uint64_t[ARGUMENTS]){address(room), n, address(data), BLOCK_WORDS},
+                      n == BLOCK_DATA ? 0 : LENGTH_NOT_ALLOWED);
+        }
+}
+
+static void scrub_block(struct test *t, const uint16_t words[BLOCK_WORDS], uint64_t n)
+{
+    uint16_t scrubbed[BLOCK_WORDS];
+    memcpy(scrubbed, words, sizeof scrubbed);
+    make_call(t, words, sizeof scrubbed, (uint64_t[ARGUMENTS]){address(room), n}, scrub_number(second_block_scrub(scrubbed, n)));
+}
+
+/* clean, every flip, further flips up to four, any words, and a length that is not allowed */
+static void scrub_blocks(struct test *t)
+{
+    uint16_t words[BLOCK_WORDS];
+    for (unsigned place = 0; place < BLOCK_PLACES; place++) {
+        draw_words(words);
+        scrub_block(t, words, BLOCK_WORDS);
+        scrub_block(t, words, BLOCK_WORDS - 1);
+        second_block(words, words);
+        scrub_block(t, words, BLOCK_WORDS);
+        for (unsigned flipped = 0, at = place; flipped < 4; flipped++, at = draw() % BLOCK_PLACES) {
+            words[at / 16] ^= (uint16_t)(1 << at % 16);
+            scrub_block(t, words, BLOCK_WORDS);
+        }
+    }
+}
+
+static void add_full(unsigned kind)
+{
+    add_head(&im, GRIDS, LONGEST_GRIDS);
+    for (unsigned k = 0; k < PAGE; k++)
+        add_grid(&im, second_grid((uint16_t)draw()) ^ kinds[kind].flips);
+}
+
+/* Sixteen data fields, full grids fields behind all others: so many of them, which are all of one kind, behind blocks or empty fields. With
+   seven the image is among the longest. */
+static void sixteen_fields(use *use, struct test *t)
+{
+    static const unsigned full[] = {0, 1, 7};
+    for (unsigned kind = 0; kind < KINDS; kind++)
+        for (unsigned k = 0; k < 2 * sizeof full / sizeof *full; k++) {
+            begin(&im, LONGEST_TITLE);
+            for (unsigned field = 0; field < MOST_DATA_FIELDS; field++)
+                if (field >= MOST_DATA_FIELDS - full[k / 2])
+                    add_full(kind);
+                else if (k % 2 == 0)
+                    add_block(&im);
+                else
+                    add_grids(&im, 0);
+            add_head(&im, END, 0);
+            use(t, &im);
+        }
+}
+
+static void use_images(use *use, struct test *t)
+{
+    for (unsigned k = 0; k < sizeof sets / sizeof *sets; k++)
+        sets[k].make(use, t);
+    every_byte(use, t);
+    some_of_each(use, t);
+    sixteen_fields(use, t);
+}
+
+static void check_image(struct test *t, struct image *im)
+{
+    struct image_answer a = second_image_check(im->bytes, im->n);
+    make_call(t, im->bytes, im->n, (uint64_t[ARGUMENTS]){address(room), im->n}, image_number(a, a.grids | a.blocks << 16));
+}
+
+static void scrub_image(struct test *t, struct image *im)
+{
+    struct image_answer a = second_image_check(im->bytes, im->n);
+    make_call(t, im->bytes, im->n, (uint64_t[ARGUMENTS]){address(room), im->n, address(tallies), TALLIES}, image_number(a, 0));
+}
+
+/* with rooms that are long enough, and with none for the title */
+static void read_image(struct test *t, struct image *im)
+{
+    struct image_answer a = second_image_check(im->bytes, im->n);
+    uint64_t arguments[ARGUMENTS] = {address(room), im->n,      address(title), LONGEST_TITLE,
+                                     address(data), MOST_GRIDS, address(flips), MOST_GRIDS};
+    make_call(t, im->bytes, im->n, arguments, image_number(a, im->bytes[2] | a.grids << 16));
+    arguments[3] = 0;
+    make_call(t, im->bytes, im->n, arguments, a.number == 0 ? TOO_SHORT : image_number(a, 0));
+}
+
+static void check_images(struct test *t)
+{
+    use_images(check_image, t);
+}
+
+static void scrub_images(struct test *t)
+{
+    use_images(scrub_image, t);
+}
+
+static void read_images(struct test *t)
+{
+    use_images(read_image, t);
+}
+
+/* titles of 0 to 25 bytes, sound ones and ones with a bad byte, and rooms that are just long enough and too short */
+static void write_images(struct test *t)
+{
+    static const uint64_t numbers[] = {0, 1, MOST_NUMBERS, MOST_NUMBERS + 1};
+    static uint8_t written[ROOM];
+    for (uint64_t length = 0; length <= LONGEST_TITLE + 1; length++)
+        for (unsigned k = 0; k < 4 * sizeof numbers / sizeof *numbers; k++) {
+            uint64_t n = numbers[k / 4], bytes = 9 + length + GRID_BYTES * n - k % 2;
+            for (uint64_t p = 0; p < length; p++)
+                title[p] = (uint8_t)(0x20 + draw() % (k / 2 % 2 == 0 ? 95 : 96));
+            for (uint64_t p = 0; p < n; p++)
+                data[p] = (uint16_t)draw();
+            struct image_answer a = second_image_write(title, length, data, n, written, bytes);
+            make_call(t, room, 0, (uint64_t[ARGUMENTS]){address(title), length, address(data), n, address(room), bytes},
+                      image_number(a, a.written));
+        }
+}
+
+/* What is returned is a number of 64 bits, of 32, or nothing. */
+static const struct {
+    const char *name;
+    function *library, *plain;
+    uint64_t returned;
+    void (*make)(struct test *);
+} operations[] = {
+    {"grid-encode", (function *)grid_encode, (function *)plain_grid, ALL, encode_grids},
+    {"grid-decode", (function *)grid_decode, (function *)plain_decode, NONE, decode_grids},
+    {"page-scrub", (function *)page_scrub, (function *)plain_scrub, LOW, scrub_pages},
+    {"block-encode", (function *)block_encode, (function *)plain_block_encode, LOW, encode_blocks},
+    {"block-scrub", (function *)block_scrub, (function *)plain_block_scrub, LOW, scrub_blocks},
+    {"image-check", (function *)image_check, (function *)plain_image_check, ALL, check_images},
+    {"image-scrub", (function *)image_scrub, (function *)plain_image_scrub, ALL, scrub_images},
+    {"image-write", (function *)image_write, (function *)plain_image_write, ALL, write_images},
+    {"image-read", (function *)image_read, (function *)plain_image_read, ALL, read_images},
+};
+
+int main(int n, char **words)
+{
+    int library = n == 3 && strcmp(words[1], "library") == 0, plain = n == 3 && strcmp(words[1], "plain") == 0;
+    struct test t = {0};
+    if (!measures()) {
+        dprintf(2, "stack: a function that is known to write to %u bytes is not measured right\n", KNOWN);
+        return 1;
+    }
+    for (unsigned o = 0; (library || plain) && o < sizeof operations / sizeof *operations; o++)
+        if (strcmp(words[2], operations[o].name) == 0) {
+            called = library ? operations[o].library : operations[o].plain;
+            compared_bits = operations[o].returned;
+            paint();
+            operations[o].make(&t);
+        }
+    if (t.compared == 0 || t.differ != 0 || depth() == TOP) {
+        dprintf(2, "stack: %llu calls, of which %llu answered wrong, and %llu bytes of stack\n", (unsigned long long)t.compared,
+                (unsigned long long)t.differ, (unsigned long long)depth());
+        return 1;
+    }
+    printf("%llu\n", (unsigned long long)depth());
+    return 0;
+}
