@@ -1,10 +1,10 @@
 -- What the calls leave and answer, over plain values: a block written, and a block found clean, mended or lost. Assumes nothing.
-use mathlib.Core.Path.{_≡_, refl, sym, ap, ap₂, _∙_, subst}
+use mathlib.Core.Path.{_≡_, sym, ap, ap₂, _∙_, subst}
 use mathlib.Core.Logic.{_≢_, _⊎_, inl, inr}
 use mathlib.Core.Bool.{Bool, true, false, _&&_, and-false}
 use mathlib.Core.List.{List}
 use Prim.Native.Nat.{ℕ, suc, _%_, _^_, _≤_, _<_}
-use native.Mathlib.Nat.{mod-lt}
+use native.Mathlib.Nat.{mod-lt, lt-trans}
 use native.Mathlib.Decide.{decLt}
 use native.Mathlib.Omega.{arith}
 use lib.Bits.{bitXor, xor-lt}
@@ -22,7 +22,7 @@ use Rattle.words.proofs.Xor.{xor-assoc}
 use Rattle.refusals.specs.declared.Refusal.the-variants.{LostBlock, Length}
 use Rattle.codes.specs.Verdict.{Verdict, clean, mended, lost, answered, off, verdict, repaired, scrubbed}
 use Rattle.codes.proofs.Promises.{found, none-near}
-use Rattle.block_code.specs.Code.{codeword, blockCode}
+use Rattle.block_code.specs.Code.{codeword, blockCode, allowed}
 use Rattle.block_code.specs.Equations.{Codeword}
 use Rattle.block_code.specs.Checks.{noChecks, mixed, syndromeOf, ofPlace}
 use Rattle.block_code.proofs.Distance.{distance}
@@ -30,8 +30,10 @@ use Rattle.block_code.proofs.Equations.{meets}
 use Rattle.block_code.proofs.Mixing.{mixed-self, mixed-none}
 use Rattle.block_code.proofs.Syndromes.{syndrome-sum, syndrome-zero, syndrome-codeword, codeword-of, codeword-lt}
 use Rattle.block_flips.specs.Steps.{Unexplained}
+use Rattle.block_words.specs.Steps.{BlockWritten, Flipped}
+use Rattle.block_words.proofs.Flips.{joined-flipped}
 use Rattle.block.specs.Answer.{answerOf}
-use Rattle.block.specs.Calls.{allowed, Encoded, Scrubbed}
+use Rattle.block.specs.Calls.{Encoded, Scrubbed}
 use Rattle.block.specs.declared.EncodeAnswer.the-variants.{Done as Written, Refused as NotWritten}
 use Rattle.block.specs.declared.BlockVerdict.the-variants.{Clean, Mended}
 use Rattle.block.specs.declared.BlockAnswer.the-variants.{Done, Refused}
@@ -54,6 +56,10 @@ block-lt ws (n, h) = joined-lt 16 38 ws n h
 
 pub back : (ws : List ℕ) → IsBlock ws → digits 16 38 (joined 16 ws) ≡ ws
 back ws (n, h) = digits-joined 16 38 ws n h
+
+-- a place flipped, in the number
+flips : (ws : List ℕ) (p : ℕ) (exit : List ℕ) → IsBlock ws → p < 608 → Flipped ws p exit → joined 16 exit ≡ bitXor (joined 16 ws) (2 ^ p)
+flips ws p exit (n, h) l f = ap (joined 16) (f .after) ∙ joined-flipped ws p (omega arith) h
 
 module _ (ws : List ℕ) (b : IsBlock ws) where
   abbrev w : ℕ
@@ -90,16 +96,17 @@ module _ (ws : List ℕ) (b : IsBlock ws) where
       scrubs (mended (v % 2 ^ 512) (suc n)) exit (near w v (suc n) hv z (dist-sym w v ∙ dist-flips w f ∙ o) l)
       (sym (back exit x) ∙ ap (digits 16 38) (e ∙ codeword-of v hv z))
 
-  pub mends-one : (p : ℕ) (exit : List ℕ) → p < 608 → ofPlace p ≡ syndromeOf w → IsBlock exit → joined 16 exit ≡ bitXor w (2 ^ p)
+  pub mends-one : (p : ℕ) (exit : List ℕ) → p < 608 → ofPlace p ≡ syndromeOf w → IsBlock exit → Flipped ws p exit
       → Scrubbed ws (Done (Mended 1)) exit
-  mends-one p exit h s x e = mends (2 ^ p) 0 exit (pow-lt h) s (ones-pow p) (lit< tt) x e
+  mends-one p exit h s x f = mends (2 ^ p) 0 exit (pow-lt h) s (ones-pow p) (lit< tt) x (flips ws p exit b h f)
 
-  pub mends-two : (p q : ℕ) (exit : List ℕ) → p < 608 → q < 608 → mixed (ofPlace p) (ofPlace q) ≡ syndromeOf w → syndromeOf w ≢ noChecks
-      → IsBlock exit → joined 16 exit ≡ bitXor (bitXor w (2 ^ p)) (2 ^ q) → Scrubbed ws (Done (Mended 2)) exit
-  mends-two p q exit hp hq s some x e =
-      mends (bitXor (2 ^ p) (2 ^ q)) 1 exit (xor-lt 608 (2 ^ p) (2 ^ q) (pow-lt hp) (pow-lt hq)) (syndrome-sum (2 ^ p) (2 ^ q) ∙ s)
-      (ones-two p q (λ i. some (sym s ∙ ap (λ (r : ℕ). mixed (ofPlace p) (ofPlace r)) (sym i) ∙ mixed-self (ofPlace p)))) (lit< tt) x
-      (e ∙ xor-assoc w (2 ^ p) (2 ^ q))
+  pub mends-two : (p q : ℕ) (once exit : List ℕ) → p < q → q < 608 → mixed (ofPlace p) (ofPlace q) ≡ syndromeOf w → IsBlock once → IsBlock exit
+      → Flipped ws p once → Flipped once q exit → Scrubbed ws (Done (Mended 2)) exit
+  mends-two p q once exit l h s o x f g =
+      let low : p < 608 = lt-trans l h in
+      mends (bitXor (2 ^ p) (2 ^ q)) 1 exit (xor-lt 608 (2 ^ p) (2 ^ q) (pow-lt low) (pow-lt h)) (syndrome-sum (2 ^ p) (2 ^ q) ∙ s)
+      (ones-two p q (λ e. absurd (omega arith))) (lit< tt) x
+      (flips once q exit o h g ∙ ap (λ (v : ℕ). bitXor v (2 ^ q)) (flips ws p once b low f) ∙ xor-assoc w (2 ^ p) (2 ^ q))
 
   -- a codeword within two places would explain the syndrome
   near-explains : (d : ℕ) → d < 2 ^ 512 → syndromeOf w ≢ noChecks → Unexplained (syndromeOf w) → AtMostTwo 608 (bitXor w (codeword d)) → ⊥
@@ -139,29 +146,30 @@ pub not-allowed : (values before : List ℕ) → (length values ≢ 32) ⊎ (len
 not-allowed values before (inl ne) = ap (λ (t : Bool). t && eqb (length before) 38) (ne-eqb (length values) 32 ne)
 not-allowed values before (inr ne) = ap (λ (t : Bool). eqb (length values) 32 && t) (ne-eqb (length before) 38 ne) ∙ and-false (eqb (length values) 32)
 
--- the answer and the words, by the test
-encodes : (values before exit : List ℕ) (t : Bool) → allowed values before ≡ t
-    → exit ≡ choose t (digits 16 38 (codeword (joined 16 values))) before
-    → (choose t Written (NotWritten Length) ≡ Written → Codeword (joined 16 values) (joined 16 exit)) → Encoded values before (choose t Written (NotWritten Length)) exit
-encodes values before exit t e x k = record {
-  answer = sym (ap (λ (t : Bool). choose t Written (NotWritten Length)) e);
-  after = x ∙ sym (ap {B = List ℕ} (λ (t : Bool). choose t (digits 16 38 (codeword (joined 16 values))) before) e);
-  meets = k;
-}
-
-pub encoded : (values before exit : List ℕ) → length values ≡ 32 → length before ≡ 38 → Below 16 values
-    → exit ≡ digits 16 38 (codeword (joined 16 values)) → Encoded values before Written exit
-encoded values before exit n m h x =
+pub encoded : (values before exit : List ℕ) → length values ≡ 32 → length before ≡ 38 → Below 16 values → BlockWritten values before exit
+    → Encoded values before Written exit
+encoded values before exit n m h w =
     let d : ℕ = joined 16 values in
     let l : d < 2 ^ 512 = joined-lt 16 32 values n h in
-    encodes values before exit true (is-allowed values before n m) x
-    (λ done. subst (Codeword d) (sym (ap (joined 16) x ∙ joined-digits 16 38 (codeword d) (codeword-lt d l))) (meets d l))
+    let yes : allowed values before ≡ true = is-allowed values before n m in
+    let block : exit ≡ digits 16 38 (codeword d) =
+    w .after ∙ ap {B = List ℕ} (λ (t : Bool). choose t (digits 16 38 (codeword d)) before) yes in
+    record {
+      answer = sym (ap (λ (t : Bool). choose t Written (NotWritten Length)) yes);
+      after = w .after;
+      meets = λ done. subst (Codeword d) (sym (ap (joined 16) block ∙ joined-digits 16 38 (codeword d) (codeword-lt d l))) (meets d l);
+    }
 
 -- ---- other lengths
 
 pub not-encoded : (values before : List ℕ) → (length values ≢ 32) ⊎ (length before ≢ 38) → Encoded values before (NotWritten Length) before
 not-encoded values before other =
-    encodes values before before false (not-allowed values before other) refl (λ done. let z : _≡_ {A = ℕ} 0 1 = cc in absurd (omega arith))
+    let not : allowed values before ≡ false = not-allowed values before other in
+    record {
+      answer = sym (ap (λ (t : Bool). choose t Written (NotWritten Length)) not);
+      after = sym (ap {B = List ℕ} (λ (t : Bool). choose t (digits 16 38 (codeword (joined 16 values))) before) not);
+      meets = λ done. let z : _≡_ {A = ℕ} 0 1 = cc in absurd (omega arith);
+    }
 
 pub other-length : (ws : List ℕ) → length ws ≢ 38 → Scrubbed ws (Refused Length) ws
 other-length ws ne = record {

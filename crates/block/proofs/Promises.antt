@@ -22,12 +22,12 @@ use Rattle.codes.specs.Tally.{tallyOfOne, Again}
 use Rattle.codes.proofs.Promises.{found, none-near, answered-given, answered-repaired}
 use Rattle.codes.proofs.Tally.{given-or-lost, given-is, as-it-was, scrubbed-lt, tallies, in-range, again-one, codeword-now}
 use Rattle.block_code.specs.Equations.{Codeword}
-use Rattle.block_code.specs.Code.{codeword, blockCode}
+use Rattle.block_code.specs.Code.{codeword, blockCode, allowed}
 use Rattle.block_code.proofs.Distance.{distance}
 use Rattle.block_code.proofs.Promises.{promised}
 use Rattle.block_code.proofs.Syndromes.{codeword-lt, data-words}
 use Rattle.block.specs.Answer.{answerOf, dataIn, means, encodeMeans}
-use Rattle.block.specs.Calls.{allowed, Encoded, Scrubbed}
+use Rattle.block.specs.Calls.{Encoded, Scrubbed}
 use Rattle.block.specs.Promises.{EncodePromises, ScrubPromises, OneOutcome}
 use Rattle.block.specs.declared.EncodeAnswer.{EncodeAnswer}
 use Rattle.block.specs.declared.EncodeAnswer.the-variants.{Done as Written, Refused as NotWritten}

@@ -1,6 +1,5 @@
 -- What each call of the crate promises: one record a call, which determines the answer and every word afterwards. Assumes nothing.
 use mathlib.Core.Path.{_≡_}
-use mathlib.Core.Bool.{Bool, _&&_}
 use mathlib.Core.List.{List}
 use Prim.Native.Nat.{ℕ}
 use lib.Dec.{eqb}
@@ -10,16 +9,12 @@ use Rattle.words.specs.Digits.{digits, joined}
 use Rattle.refusals.specs.declared.Refusal.the-variants.{Length}
 use Rattle.codes.specs.Verdict.{verdict, scrubbed}
 use Rattle.block_code.specs.Equations.{Codeword}
-use Rattle.block_code.specs.Code.{codeword, blockCode}
+use Rattle.block_code.specs.Code.{codeword, blockCode, allowed}
 use Rattle.block.specs.Answer.{answerOf}
 use Rattle.block.specs.declared.EncodeAnswer.{EncodeAnswer}
 use Rattle.block.specs.declared.EncodeAnswer.the-variants.{Done as Written, Refused as NotWritten}
 use Rattle.block.specs.declared.BlockAnswer.{BlockAnswer}
 use Rattle.block.specs.declared.BlockAnswer.the-variants.{Refused}
-
--- exactly 32 words of data, and exactly 38 to write to
-abbrev pub allowed : List ℕ → List ℕ → Bool
-allowed values before = eqb (length values) 32 && eqb (length before) 38
 
 -- `Block::encode`: exactly 32 words in and exactly 38 out: the words of the block of the data, which meets the equations. Any other length is
 -- refused, and nothing is written.

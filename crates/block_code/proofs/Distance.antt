@@ -1,29 +1,32 @@
 -- Two different blocks differ in at least five places. Row by row: a row that differs counts two at least, its parity among them; so three
--- rows are six, two rows are four and tell themselves by their columns or their diagonals, and in one row each place counts three.
--- Assumes nothing.
+-- rows are six, two rows are four and tell themselves by their columns or their diagonals, and in one row each place counts three. So the
+-- syndrome names up to two flips. Assumes nothing.
 use mathlib.Core.Path.{_≡_, refl, sym, ap, ap₂, _∙_, subst}
 use mathlib.Core.Logic.{_⊎_, inl, inr}
 use Prim.Native.Nat.{ℕ, zero, suc, _+_, _*_, _/_, _%_, _^_, _≤_, _<_}
 use native.Mathlib.Nat.{eq-zero-or-pos, mod-lt, mul-one, mul-assoc, mul-le-mul-left}
-use native.Mathlib.Decide.{decLt}
+use native.Mathlib.Decide.{decLt, ℕ-discrete}
 use native.Mathlib.Omega.{arith}
 use lib.Arith.{lt-one}
 use lib.Bits.{bitXor, xor-comm, xor-shifted, xor-zero-r, xor-lt}
-use lib.Count.{ones, ones-cat, ones-ones}
+use lib.Count.{ones, ones-cat, ones-ones, trailingZeros}
 use lib.Dec.{lit<}
-use lib.Pow.{pow-pos, pow-add, shr-lt, split}
+use lib.Pow.{pow-pos, pow-lt, pow-add, shr-lt, split}
 use Rattle.words.specs.Word.{dist}
 use Rattle.words.specs.Digits.{digits}
 use Rattle.words.proofs.Bit.{by-bit, odd-lt}
-use Rattle.words.proofs.Dist.{ones-zero, zero-of-ones}
+use Rattle.words.proofs.Dist.{ones-zero, ones-xor, zero-of-ones}
 use Rattle.words.proofs.Digits.{dist-cat}
 use Rattle.words.proofs.Linear.{same, at-zero}
-use Rattle.words.proofs.Ones.{ones-shl}
+use Rattle.words.proofs.Ones.{ones-shl, ones-pow, trailing-pow}
 use Rattle.words.proofs.Xor.{eq-of-xor}
 use Rattle.codes.specs.Promises.{Distance, States}
 use Rattle.block_code.specs.Code.{odd, stacked, rowsOf, columnsOf, diagonalsOf, codeword, blockCode}
+use Rattle.block_code.specs.Checks.{mixed, syndromeOf, ofPlace}
+use Rattle.block_code.specs.declared.Checks.{Checks}
+use Rattle.block_code.proofs.Mixing.{mixed-self}
 use Rattle.block_code.proofs.Stack.{parity, stack}
-use Rattle.block_code.proofs.Syndromes.{codeword-lt, rowSums, columnSums, diagonalSums, rows-lt, columns-lt, sums-lt}
+use Rattle.block_code.proofs.Syndromes.{syndrome-sum, syndrome-zero, codeword-lt, codeword-of, rowSums, columnSums, diagonalSums, rows-lt, columns-lt, sums-lt}
 
 -- the sums of the n rows of a word
 abbrev R : ℕ → ℕ → ℕ
@@ -246,3 +249,32 @@ constants = record {
   apart = distance;
   reached = (0, 1, lit< tt, lit< tt, (λ e. absurd (omega (arith, e))), reached);
 }
+
+-- ---- of flips
+
+-- no two sets of at most two flips have the same syndrome
+pub few-named : (x y : ℕ) → x < 2 ^ 608 → y < 2 ^ 608 → ones x ≤ 2 → ones y ≤ 2 → syndromeOf x ≡ syndromeOf y → x ≡ y
+unfolding dist
+few-named x y hx hy ox oy e = go (ℕ-discrete (v % 2 ^ 512) 0)
+  where
+    v : ℕ
+    v = bitXor x y
+
+    is : v ≡ codeword (v % 2 ^ 512)
+    is = codeword-of v (xor-lt 608 x y hx hy) (syndrome-sum x y ∙ ap (λ (k : Checks). mixed k (syndromeOf y)) e ∙ mixed-self (syndromeOf y))
+
+    zero-is : 0 ≡ codeword 0
+    zero-is = codeword-of 0 (pow-pos 608) syndrome-zero
+
+    go : Dec (v % 2 ^ 512 ≡ 0) → x ≡ y
+    go (yes z) = eq-of-xor x y (is ∙ ap codeword z ∙ sym zero-is)
+    go (no z) =
+        let far : 5 ≤ dist (codeword (v % 2 ^ 512)) (codeword 0) = distance (v % 2 ^ 512) 0 (mod-lt v (pow-pos 512)) (pow-pos 512) z in
+        let same : dist (codeword (v % 2 ^ 512)) (codeword 0) ≡ ones v = sym (ap₂ dist is zero-is) ∙ ap ones (xor-zero-r v) in
+        absurd (omega (arith, ones-xor x y))
+
+pub same-place : (p q : ℕ) → p < 608 → q < 608 → ofPlace p ≡ ofPlace q → p ≡ q
+same-place p q hp hq e =
+    let same : 2 ^ p ≡ 2 ^ q =
+    few-named (2 ^ p) (2 ^ q) (pow-lt hp) (pow-lt hq) (omega (arith, ones-pow p)) (omega (arith, ones-pow q)) e in
+    sym (trailing-pow 608 p hp) ∙ ap (trailingZeros 608) same ∙ trailing-pow 608 q hq

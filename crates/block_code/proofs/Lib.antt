@@ -5,3 +5,4 @@ pub mod Places
 pub mod Equations
 pub mod Distance
 pub mod Promises
+pub mod Outcomes

@@ -1,12 +1,12 @@
 -- Checks that are mixed, number by number, and whether none is set. Assumes nothing.
-use mathlib.Core.Path.{_≡_, sym, ap}
+use mathlib.Core.Path.{_≡_, sym, ap, _∙_}
 use mathlib.Core.Logic.{_≢_}
-use mathlib.Core.Bool.{false, true≢false}
+use mathlib.Core.Bool.{true, false, _&&_, true≢false, and-eq-true-iff}
 use lib.Bits.{xor-self, xor-comm, xor-zero-r}
 use lib.Dec.{eqb}
-use borrow.Author.Tests.{eqb-true, eqb-false}
+use borrow.Author.Tests.{eqb-true}
 use Rattle.words.proofs.Xor.{eq-of-xor, xor-cancel-l}
-use Rattle.block_code.specs.Checks.{noChecks, mixed, IsNone}
+use Rattle.block_code.specs.Checks.{noChecks, mixed, noneSet}
 use Rattle.block_code.specs.declared.Checks.{Checks}
 
 pub mixed-self : (k : Checks) → mixed k k ≡ noChecks
@@ -36,15 +36,16 @@ eq-of-mixed a b e =
     let d = eq-of-xor (a .diagonals) (b .diagonals) (ap (λ (k : Checks). k .diagonals) e) in
     λ i. record { rows = r i; columns = c i; diagonals = d i }
 
--- whether none is set, number by number
-pub some-rows : (k : Checks) → k .rows ≢ 0 → IsNone k false
-some-rows k ne = record { yes = λ e. absurd (true≢false (sym e)); no = λ e z. ne (ap (λ (k : Checks). k .rows) z) }
+-- ---- whether none is set
 
-pub some-columns : (k : Checks) → k .columns ≢ 0 → IsNone k false
-some-columns k ne = record { yes = λ e. absurd (true≢false (sym e)); no = λ e z. ne (ap (λ (k : Checks). k .columns) z) }
+pub none-set : (k : Checks) → noneSet k ≡ true → k ≡ noChecks
+none-set k e =
+    let (both, d) = and-eq-true-iff (eqb (k .rows) 0 && eqb (k .columns) 0) (eqb (k .diagonals) 0) .0 e in
+    let (r, c) = and-eq-true-iff (eqb (k .rows) 0) (eqb (k .columns) 0) .0 both in
+    let rows = eqb-true (k .rows) 0 r in
+    let columns = eqb-true (k .columns) 0 c in
+    let diagonals = eqb-true (k .diagonals) 0 d in
+    λ i. record { rows = rows i; columns = columns i; diagonals = diagonals i }
 
-pub by-diagonals : (k : Checks) → k .rows ≡ 0 → k .columns ≡ 0 → IsNone k (eqb (k .diagonals) 0)
-by-diagonals k r c = record {
-  yes = λ e. let d = eqb-true (k .diagonals) 0 e in λ i. record { rows = r i; columns = c i; diagonals = d i };
-  no = λ e z. eqb-false (k .diagonals) 0 e (ap (λ (k : Checks). k .diagonals) z);
-}
+pub some-set : (k : Checks) → noneSet k ≡ false → k ≢ noChecks
+some-set k e z = true≢false (sym (ap noneSet z) ∙ e)

@@ -149,6 +149,21 @@ place-diagonal t h =
     up : 48 + t ≡ 0 + 32 + (16 + t)
     up = omega arith
 
+-- past the last place
+pub place-beyond : (k : ℕ) → ofPlace (608 + k) ≡ noChecks
+place-beyond k =
+    let x : 2 ^ (96 + k) % 2 ^ 32 ≡ 0 =
+    ap (λ (y : ℕ). y % 2 ^ 32) (sym (div-one (2 ^ (96 + k)))) ∙ ap (λ (y : ℕ). 2 ^ y / 2 ^ 0 % 2 ^ 32) low32 ∙ above 32 0 (64 + k) in
+    let y : 2 ^ (96 + k) / 2 ^ 32 % 2 ^ 16 ≡ 0 = ap (λ (y : ℕ). 2 ^ y / 2 ^ 32 % 2 ^ 16) low16 ∙ above 16 32 (48 + k) in
+    let z = above 48 48 k in
+    ap ofPlace (omega arith) ∙ check (96 + k) ∙ (λ i. record { rows = x i; columns = y i; diagonals = z i })
+  where
+    low32 : 96 + k ≡ 0 + 32 + (64 + k)
+    low32 = omega arith
+
+    low16 : 96 + k ≡ 32 + 16 + (48 + k)
+    low16 = omega arith
+
 -- ---- by kind
 
 abbrev pub dataAt : ℕ → ℕ → Checks

@@ -1,8 +1,11 @@
 -- The block's code: the one solution of the equations for each data value, computed. Assumes nothing.
+use mathlib.Core.Bool.{Bool, _&&_}
 use mathlib.Core.List.{List, [], _∷_}
 use Prim.Native.Nat.{ℕ, _+_, _*_, _%_, _^_}
 use lib.Bits.{bitXor}
 use lib.Count.{ones}
+use lib.Dec.{eqb}
+use lib.ListN.{length}
 use Rattle.words.specs.Digits.{digits}
 use Rattle.codes.specs.Verdict.{Code}
 
@@ -36,3 +39,7 @@ codeword d = withChecks d (rowsOf (digits 16 32 d)) (columnsOf (digits 16 32 d))
 
 abbrev pub blockCode : Code
 blockCode = record { values = 2 ^ 512; encode = codeword; places = 608; radius = 2 }
+
+-- exactly 32 words of data, and exactly 38 to write their block to
+abbrev pub allowed : List ℕ → List ℕ → Bool
+allowed values before = eqb (length values) 32 && eqb (length before) 38

@@ -2,3 +2,4 @@ pub mod Equations
 pub mod Code
 pub mod Promises
 pub mod Checks
+pub mod Outcomes

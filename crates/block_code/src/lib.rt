@@ -2,10 +2,9 @@
 // out in the crate block_sums.
 //
 // specs/Equations.antt has the parities of document 01, specs/Code.antt their one solution for all data, and specs/Promises.antt what is
-// proved of the code. The type and its calls are in the crate block; each function here accepts every input.
-ghost use mathlib.Core.Path.{_≡_};
-ghost use Prim.Native.Nat.{_<_};
-ghost use Rattle.block_code.specs.Checks.{IsNone, mixed, ofPlace};
+// proved of the code. The type and its calls are in the crate block; each function here is a step of them, which accepts every input
+// (specs/Checks.antt, specs/Outcomes.antt).
+ghost use Rattle.block_code.specs.Checks.{Mixed, IsNone, OfPlace};
 
 // Row parities, column parities, and the diagonals with the system parity as bit 47.
 pub struct Checks {
@@ -16,7 +15,7 @@ pub struct Checks {
 
 // Where two differ.
 pub fn mix(a: Checks, b: Checks) -> Checks
-    ensures { λ r. ⌜ r ≡ mixed a b ⌝ }
+    ensures { λ r. ⌜ Mixed a b r ⌝ }
 {
     Checks {
         rows: a.rows ^ b.rows,
@@ -38,9 +37,9 @@ pub fn is_none(a: Checks) -> bool
     a.diagonals == 0
 }
 
-// The checks that a flip at `place` changes, for the 608 places of a block: those that a data place stands in, or the check itself.
+// The checks that a flip at `place` changes: those that a data place stands in, or the check itself, and none past the last of the 608.
 pub fn of_place(place: usize) -> Checks
-    ensures { λ r. ⌜ (place < 608 → r ≡ ofPlace place) ⌝ }
+    ensures { λ r. ⌜ OfPlace place r ⌝ }
 {
     if place < 512 {
         let row = place / 16;

@@ -1,3 +1,4 @@
 pub mod Naming
 pub mod Guessing
 pub mod Search
+pub mod Outcomes

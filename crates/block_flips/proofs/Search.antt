@@ -6,15 +6,16 @@ use Prim.Native.Nat.{ℕ, _+_, _*_, _^_, _≤_, _<_}
 use native.Mathlib.Omega.{arith}
 use lib.Bits.{bitXor}
 use lib.Dec.{eqb}
-use borrow.Author.Tests.{eqb-true, eqb-false}
-use Rattle.block_code.specs.Checks.{noChecks, mixed, IsNone, ofPlace}
+use borrow.Author.Tests.{eqb-true, eqb-false, lt-ltb, le-ltb}
+use Rattle.block_code.specs.Checks.{noChecks, mixed, noneSet, ofPlace}
 use Rattle.block_code.specs.declared.Checks.{Checks}
-use Rattle.block_code.proofs.Mixing.{mixed-self, mixed-comm, mixed-back, eq-of-mixed}
+use Rattle.block_code.proofs.Distance.{same-place}
+use Rattle.block_code.proofs.Mixing.{mixed-self, mixed-comm, mixed-back, eq-of-mixed, none-set, some-set}
 use Rattle.block_code.proofs.Places.{dataAt, place-data}
-use Rattle.block_flips.specs.Steps.{lowestOf, Explained, OnlyPlace, RuledOut, Attempted, Among, Guessed, Nearest, isMore}
+use Rattle.block_flips.specs.Steps.{lowestOf, Explained, OnlyPlace, RuledOut, Attempted, Among, Explains, Guessed, Unexplained, inOrder, isMore}
 use Rattle.block_flips.specs.declared.Flips.{Flips}
 use Rattle.block_flips.specs.declared.Flips.the-variants.{One, Two, More}
-use Rattle.block_flips.proofs.Naming.{Only}
+use Rattle.block_flips.proofs.Naming.{Only, order}
 
 -- ---- one place
 
@@ -26,8 +27,11 @@ module _ (s : Checks) (p : ℕ) where
   none-left : ofPlace p ≡ s → mixed s (ofPlace p) ≡ noChecks
   none-left e = ap (λ (k : Checks). mixed k (ofPlace p)) (sym e) ∙ mixed-self (ofPlace p)
 
-  pub explained : (r : Bool) → p < 608 → IsNone (mixed s (ofPlace p)) r → Explained p s r
-  explained r h n = record { yes = λ e. (h, left-none (n .yes e)); no = λ e l q. n .no e (none-left q) }
+  pub explained : (r : Bool) → p < 608 → r ≡ noneSet (mixed s (ofPlace p)) → Explained p s r
+  explained r h n = record {
+    yes = λ e. (h, left-none (none-set (mixed s (ofPlace p)) (sym n ∙ e)));
+    no = λ e l q. some-set (mixed s (ofPlace p)) (sym n ∙ e) (none-left q);
+  }
 
   pub nowhere : 608 ≤ p → Explained p s false
   nowhere h = record { yes = λ e. absurd (true≢false (sym e)); no = λ e l. absurd (omega arith) }
@@ -64,21 +68,40 @@ module _ (s : Checks) (r c : ℕ) (hr : r < 32) (hc : c < 16) where
 -- ---- a place tried
 
 module _ (s : Checks) (p : ℕ) where
-  pub tried-one : p < 608 → IsNone (mixed s (ofPlace p)) true → Attempted s p (One p)
-  tried-one h n = (h, left-none s p (n .yes refl))
+  pub tried-one : p < 608 → noneSet (mixed s (ofPlace p)) ≡ true → Attempted s p (One p)
+  tried-one h n = (h, left-none s p (none-set (mixed s (ofPlace p)) n))
 
-  pub tried-two : (q : ℕ) → p < 608 → q < 608 → OnlyPlace (mixed s (ofPlace p)) q → Attempted s p (Two p q)
-  tried-two q h l a = (h, l, ap (mixed (ofPlace p)) (a .sound l ∙ mixed-comm s (ofPlace p)) ∙ mixed-back (ofPlace p) s)
+  -- another place that explains s with p is all that is left
+  left : (r : ℕ) → mixed (ofPlace p) (ofPlace r) ≡ s → ofPlace r ≡ mixed s (ofPlace p)
+  left r e =
+      sym (ap (λ (k : Checks). mixed k (ofPlace p)) (sym e) ∙ mixed-comm (mixed (ofPlace p) (ofPlace r)) (ofPlace p)
+      ∙ mixed-back (ofPlace p) (ofPlace r))
+
+  -- p is not all, and it is the only place that can go with it
+  not-alone-nor-paired : noneSet (mixed s (ofPlace p)) ≡ false
+      → ((r : ℕ) → p < 608 → r < 608 → ofPlace r ≡ mixed s (ofPlace p) → p ≡ r) → RuledOut s p
+  not-alone-nor-paired n only = record {
+    alone = λ h e. some-set (mixed s (ofPlace p)) n (none-left s p e);
+    paired = λ r h l ne e. ne (only r h l (left r e));
+  }
+
+  pub tried-two : (q : ℕ) → p < 608 → q < 608 → noneSet (mixed s (ofPlace p)) ≡ false → OnlyPlace (mixed s (ofPlace p)) q
+      → Attempted s p (inOrder p q)
+  tried-two q h l n a = go (order p q)
+    where
+      is : mixed (ofPlace p) (ofPlace q) ≡ s
+      is = ap (mixed (ofPlace p)) (a .sound l ∙ mixed-comm s (ofPlace p)) ∙ mixed-back (ofPlace p) s
+
+      go : (p < q) ⊎ ((q < p) ⊎ (p ≡ q)) → Attempted s p (inOrder p q)
+      go (inl m) = rw (lt-ltb p q m) (m, l, is)
+      go (inr (inl m)) = rw (le-ltb p q (omega arith), lt-ltb q p m) (m, h, mixed-comm (ofPlace q) (ofPlace p) ∙ is)
+      go (inr (inr m)) =
+          rw (le-ltb p q (omega arith), le-ltb q p (omega arith))
+          (not-alone-nor-paired n (λ r g k e. same-place p r g k (ap ofPlace m ∙ a .sound l ∙ sym e)))
 
   -- what is left is not none, and no place alone explains it
-  pub tried-more : (q : ℕ) → IsNone (mixed s (ofPlace p)) false → OnlyPlace (mixed s (ofPlace p)) q → 608 ≤ q → Attempted s p More
-  tried-more q n a l = record {
-    alone = λ h e. n .no refl (none-left s p e);
-    paired = λ r h m e.
-        let left : mixed s (ofPlace p) ≡ ofPlace r =
-        ap (λ (k : Checks). mixed k (ofPlace p)) (sym e) ∙ mixed-comm (mixed (ofPlace p) (ofPlace r)) (ofPlace p) ∙ mixed-back (ofPlace p) (ofPlace r) in
-        absurd (omega (arith, l, a .all r m (sym left)));
-  }
+  pub tried-more : (q : ℕ) → noneSet (mixed s (ofPlace p)) ≡ false → OnlyPlace (mixed s (ofPlace p)) q → 608 ≤ q → Attempted s p More
+  tried-more q n a l = not-alone-nor-paired n (λ r h m e. absurd (omega (arith, l, a .all r m e)))
 
   pub tried-nowhere : 608 ≤ p → Attempted s p More
   tried-nowhere l = record { alone = λ h. absurd (omega arith); paired = λ q h. absurd (omega arith) }
@@ -86,7 +109,7 @@ module _ (s : Checks) (p : ℕ) where
 -- ---- both guesses
 
 module _ (s : Checks) (p : ℕ) where
-  pub found : (f : Flips) → Attempted s p f → isMore f ≡ false → Nearest s f
+  pub found : (f : Flips) → Attempted s p f → isMore f ≡ false → Explains s (Unexplained s) f
   found (One a) t e = t
   found (Two a b) t e = t
   found More t e = absurd (true≢false e)
@@ -96,16 +119,16 @@ module _ (s : Checks) (p : ℕ) where
   failed (Two a b) t e = absurd (true≢false (sym e))
   failed More t e = t
 
-  pub none-found : Guessed s p → RuledOut s p → RuledOut s (lowestOf s) → Nearest s More
+  pub none-found : Guessed s p → RuledOut s p → RuledOut s (lowestOf s) → Unexplained s
   none-found g x y = record {
     alone = λ q h e. fails q (g .alone q h e) .alone h e;
-    paired = λ q r h m ne e. go q r h m e (g .paired q r h m ne e);
+    paired = λ q r h m ne e. go q r h m ne e (g .paired q r h m ne e);
   }
     where
       fails : (q : ℕ) → Among s p q → RuledOut s q
       fails q (inl e) = subst (RuledOut s) e x
       fails q (inr e) = subst (RuledOut s) e y
 
-      go : (q r : ℕ) → q < 608 → r < 608 → mixed (ofPlace q) (ofPlace r) ≡ s → Among s p q ⊎ Among s p r → ⊥
-      go q r h m e (inl a) = fails q a .paired r h m e
-      go q r h m e (inr a) = fails r a .paired q m h (mixed-comm (ofPlace r) (ofPlace q) ∙ e)
+      go : (q r : ℕ) → q < 608 → r < 608 → q ≢ r → mixed (ofPlace q) (ofPlace r) ≡ s → Among s p q ⊎ Among s p r → ⊥
+      go q r h m ne e (inl a) = fails q a .paired r h m ne e
+      go q r h m ne e (inr a) = fails r a .paired q m h (λ z. ne (sym z)) (mixed-comm (ofPlace r) (ofPlace q) ∙ e)

@@ -5,7 +5,7 @@ use mathlib.Core.Logic.{_≢_, _⊎_}
 use mathlib.Core.Bool.{Bool, true, false}
 use Prim.Native.Nat.{ℕ, _+_, _<_}
 use lib.Count.{trailingZeros}
-use lib.Dec.{eqb}
+use lib.Dec.{eqb, ltb}
 use Rattle.words.specs.Word.{choose}
 use Rattle.block_code.specs.Checks.{mixed, ofPlace}
 use Rattle.block_code.specs.declared.Checks.{Checks}
@@ -28,16 +28,20 @@ pub record OnlyPlace (s : Checks) (r : ℕ) : Type 0 where
   pub sound : r < 608 → ofPlace r ≡ s
   pub all : (p : ℕ) → p < 608 → ofPlace p ≡ s → r < 608
 
--- flips that explain s; where there are more, N holds
+-- flips that explain s, the lower place first; where there are more, N holds
 abbrev pub Explains : Checks → Type 0 → Flips → Type 0
 Explains s N (One p) = (p < 608) × (ofPlace p ≡ s)
-Explains s N (Two p q) = (p < 608) × (q < 608) × (mixed (ofPlace p) (ofPlace q) ≡ s)
+Explains s N (Two p q) = (p < q) × (q < 608) × (mixed (ofPlace p) (ofPlace q) ≡ s)
 Explains s N More = N
+
+-- two places as flips, the lower first; the same place twice is no flip
+abbrev pub inOrder : ℕ → ℕ → Flips
+inOrder p q = choose (ltb p q) (Two p q) (choose (ltb q p) (Two q p) More)
 
 -- p is not the one flip, nor one of two, that explain s
 pub record RuledOut (s : Checks) (p : ℕ) : Type 0 where
   pub alone : p < 608 → ofPlace p ≢ s
-  pub paired : (q : ℕ) → p < 608 → q < 608 → mixed (ofPlace p) (ofPlace q) ≢ s
+  pub paired : (q : ℕ) → p < 608 → q < 608 → p ≢ q → mixed (ofPlace p) (ofPlace q) ≢ s
 
 abbrev pub Attempted : Checks → ℕ → Flips → Type 0
 Attempted s p f = Explains s (RuledOut s p) f
@@ -56,10 +60,11 @@ pub record Unexplained (s : Checks) : Type 0 where
   pub alone : (p : ℕ) → p < 608 → ofPlace p ≢ s
   pub paired : (p q : ℕ) → p < 608 → q < 608 → p ≢ q → mixed (ofPlace p) (ofPlace q) ≢ s
 
-abbrev pub Nearest : Checks → Flips → Type 0
-Nearest s f = Explains s (Unexplained s) f
-
 abbrev pub isMore : Flips → Bool
 isMore (One p) = false
 isMore (Two p q) = false
 isMore More = true
+
+-- `block_flips::nearest`: the one flip or the two that explain s, and no more than two where none do.
+pub record Nearest (s : Checks) (r : Flips) : Type 0 where
+  pub answer : Explains s (Unexplained s) r

@@ -11,9 +11,10 @@ ghost use mathlib.Core.Logic.{_⊎_};
 ghost use Prim.Native.Nat.{_+_, _-_, _*_, _^_, _≤_, _<_};
 ghost use lib.Bits.{bitXor};
 ghost use lib.Count.{trailingZeros};
-ghost use Rattle.block_flips.specs.Steps.{lowestOf, Explained, OnlyPlace, Attempted, Guessed, Nearest, isMore};
+ghost use Rattle.block_flips.specs.Steps.{lowestOf, Explained, OnlyPlace, Attempted, Guessed, inOrder, isMore, Nearest};
 use block_code::Checks;
 
+// The places of the flips, of two the lower first.
 pub enum Flips {
     One(usize),
     Two(usize, usize),
@@ -121,6 +122,19 @@ fn alone(s: Checks) -> usize
     PLACES
 }
 
+// Two places as flips, the lower first. The same place twice is no flip.
+fn in_order(p: usize, q: usize) -> Flips
+    ensures { λ r. ⌜ r ≡ inOrder p q ⌝ }
+{
+    if p < q {
+        return Flips::Two(p, q);
+    }
+    if q < p {
+        return Flips::Two(q, p);
+    }
+    Flips::More
+}
+
 // The place p tried as one of the flips.
 fn attempt(s: Checks, p: usize) -> Flips
     ensures { λ r. ⌜ Attempted s p r ⌝ }
@@ -132,7 +146,7 @@ fn attempt(s: Checks, p: usize) -> Flips
         }
         let q = alone(rest);
         if q < PLACES {
-            return Flips::Two(p, q);
+            return in_order(p, q);
         }
     }
     Flips::More
@@ -171,10 +185,10 @@ fn is_more(f: Flips) -> bool
     }
 }
 
-// The flips that explain a syndrome in which some check is set, where there are not more than two. A loop over the two guesses, for there
+// The one flip or the two that explain a syndrome, and `More` where none do; an empty one has none. A loop over the two guesses, for there
 // `attempt` is compiled in place: two calls of it cost more.
 pub fn nearest(s: Checks) -> Flips
-    ensures { λ f. ⌜ Nearest s f ⌝ }
+    ensures { λ r. ⌜ Nearest s r ⌝ }
 {
     let places = [chosen(s), lowest(s)];
     let mut k: usize = 0;

@@ -1,14 +1,15 @@
 // The checks that 32 data words say, by sums of many words at a time: four words are one number, and rows, columns and diagonals of 16
 // words are a few folds of four numbers. All of it is shifts, masks and exclusive or, so it is proved by its values at single places.
 //
-// The crate block_code says what the checks are; the public function accepts every input.
+// The crate block_code says what the checks are. The public function is a step of the block's calls, which accepts every input
+// (specs/Steps.antt).
 ghost use mathlib.Core.Path.{_≡_};
 ghost use mathlib.Core.List.{[], _∷_};
 ghost use Prim.Native.Nat.{ℕ, _≤_, _<_};
-ghost use lib.ListN.{length, getD, take};
+ghost use lib.ListN.{length, getD};
 ghost use Rattle.words.specs.Digits.{digits, joined};
 ghost use Rattle.block_code.specs.Code.{stacked, rowsOf, columnsOf};
-ghost use Rattle.block_code.specs.Checks.{saidBy};
+ghost use Rattle.block_sums.specs.Steps.{Said};
 use block_code::Checks;
 
 // Words 4k to 4k + 3 as one number, the first lowest: the four reads are one load.
@@ -63,7 +64,7 @@ fn diagonals_of(a: u64, b: u64, c: u64, d: u64) -> u64
 // The rows and the diagonals are those of 16 words and 16 more, which stand 16 places higher. The system parity is that of the columns, for
 // they too have each data bit once.
 pub fn said(words: &[u16]) -> Checks
-    ensures { λ r. ⌜ (32 ≤ length (now (words .entry)) → r ≡ saidBy (take 32 (now (words .entry)))) ⌝ }
+    ensures { λ r. ⌜ Said (now (words .entry)) r ⌝ }
 {
     if words.len() < 32 {
         return Checks {

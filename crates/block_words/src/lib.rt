@@ -1,14 +1,14 @@
 // The words of a block: a block written, the checks that it holds beside those that its data says, and a place flipped.
 //
-// The crate block_code says what a block's checks are, and block_sums sums those that data says; each public function accepts every input.
+// The crate block_code says what a block's checks are, and block_sums sums those that data says. Each public function is a step of the
+// block's calls, which accepts every input (specs/Steps.antt).
 ghost use mathlib.Core.Path.{_≡_};
-ghost use Prim.Native.Nat.{_*_, _^_, _≤_, _<_};
-ghost use lib.Bits.{bitXor};
+ghost use Prim.Native.Nat.{_^_, _≤_, _<_};
 ghost use lib.ListN.{length};
 ghost use lib.Seq.{sets, paste};
-ghost use Rattle.words.specs.Digits.{digits, joined};
-ghost use Rattle.block_code.specs.Code.{codeword};
-ghost use Rattle.block_code.specs.Checks.{noChecks, heldBy, checkWords, syndromeOf};
+ghost use Rattle.words.specs.Digits.{joined};
+ghost use Rattle.block_code.specs.Checks.{heldBy, checkWords};
+ghost use Rattle.block_words.specs.Steps.{BlockWritten, SyndromeFound, Flipped};
 use block_code::Checks;
 
 // The 32 data words, to the front. Four are read before they are written: with no store between them the four reads are one load, and the
@@ -49,8 +49,7 @@ fn hold(words: &mut [u16], k: Checks)
 
 // The block of 32 data words, into 38 words; where either length is another, nothing is written.
 pub fn write(values: &[u16], words: &mut [u16])
-    ensures { λ r. ⌜ ((length (now (values .entry)) ≡ 32) × (length (now (words .entry)) ≡ 38) → now (words .exit) ≡ digits 16 38 (codeword (joined 16 (now (values .entry))))) ⌝ }
-    ensures otherwise { λ r. ⌜ (¬ ((length (now (values .entry)) ≡ 32) × (length (now (words .entry)) ≡ 38)) → now (words .exit) ≡ now (words .entry)) ⌝ }
+    ensures { λ r. ⌜ BlockWritten (now (values .entry)) (now (words .entry)) (now (words .exit)) ⌝ }
 {
     if values.len() != 32 {
         return;
@@ -78,8 +77,7 @@ fn held(words: &[u16]) -> Checks
 
 // Where what the data says and what the block at the front holds differ; none where there are not 38 words.
 pub fn syndrome(words: &[u16]) -> Checks
-    ensures { λ r. ⌜ (38 ≤ length (now (words .entry)) → r ≡ syndromeOf (joined 16 (now (words .entry)))) ⌝ }
-    ensures otherwise { λ r. ⌜ (length (now (words .entry)) < 38 → r ≡ noChecks) ⌝ }
+    ensures { λ r. ⌜ SyndromeFound (now (words .entry)) r ⌝ }
 {
     if words.len() < 38 {
         return Checks {
@@ -93,8 +91,7 @@ pub fn syndrome(words: &[u16]) -> Checks
 
 // The place flipped; where it is in none of the words, they stay as they are.
 pub fn flip(words: &mut [u16], place: usize)
-    ensures { λ r. ⌜ (place < 16 * length (now (words .entry)) → joined 16 (now (words .exit)) ≡ bitXor (joined 16 (now (words .entry))) (2 ^ place)) ⌝ }
-    ensures otherwise { λ r. ⌜ (16 * length (now (words .entry)) ≤ place → now (words .exit) ≡ now (words .entry)) ⌝ }
+    ensures { λ r. ⌜ Flipped (now (words .entry)) place (now (words .exit)) ⌝ }
 {
     let i = place / 16;
     if i < words.len() {

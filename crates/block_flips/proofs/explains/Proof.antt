@@ -1,7 +1,7 @@
 -- `block_flips::explains` meets its contract. Assumes nothing.
-use mathlib.Core.Path.{ap, _∙_, subst}
+use mathlib.Core.Path.{ap, _∙_}
 use borrow.Author.Needs.{needs}
-use Rattle.block_code.specs.Checks.{mixed, IsNone}
+use Rattle.block_code.specs.Checks.{mixed, noneSet}
 use Rattle.block_code.specs.declared.Checks.{Checks}
 use Rattle.block_flips.proofs.Search.{explained, nowhere}
 use Rattle.block_flips.proofs.explains.Statement.{statement}
@@ -10,9 +10,8 @@ use Rattle.block_flips.proofs.explains.Tie as tie
 returns : tie.Need-returns
 returns c =
     let s : Checks = c .before .before .before .before .args .s in
-    let inside = c .before .before .before .if1 .taken in
-    let rest = c .before .mix .ensures ∙ ap (mixed s) (c .before .before .of-place .ensures inside) in
-    explained s _ (c .is-none .result) inside (subst (λ (k : Checks). IsNone k (c .is-none .result)) rest (c .is-none .ensures))
+    let rest = c .before .mix .ensures .answer ∙ ap (mixed s) (c .before .before .of-place .ensures .answer) in
+    explained s _ (c .is-none .result) (c .before .before .before .if1 .taken) (c .is-none .ensures .answer ∙ ap noneSet rest)
 
 returns-2 : tie.Need-returns-2
 returns-2 c = nowhere _ _ (c .if1 .left)

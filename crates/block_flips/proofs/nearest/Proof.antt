@@ -25,7 +25,11 @@ loop-holds c = (omega arith, λ m l. absurd (omega arith))
 returns : tie.Need-returns Inv-loop μ-loop
 returns c =
     let attempt = c .before .before .attempt in
-    found _ _ (attempt .result) (attempt .ensures) (sym (c .before .is-more .ensures) ∙ not-true (c .before .is-more .result) (c .if1 .taken))
+    record {
+      answer =
+          found _ _ (attempt .result) (attempt .ensures)
+          (sym (c .before .is-more .ensures) ∙ not-true (c .before .is-more .result) (c .if1 .taken));
+    }
 
 loop-again : tie.Need-loop-again Inv-loop μ-loop
 loop-again c =
@@ -42,8 +46,11 @@ returns-2 : tie.Need-returns-2 Inv-loop μ-loop
 returns-2 c =
     let loop = c .before in
     let s : Checks = loop .before .before .before .args .s in
-    none-found s _ (loop .before .before .chosen .ensures) (loop .loop .inv .1 0 (omega arith))
-    (subst (RuledOut s) (loop .before .lowest .ensures) (loop .loop .inv .1 1 (omega arith)))
+    record {
+      answer =
+          none-found s _ (loop .before .before .chosen .ensures) (loop .loop .inv .1 0 (omega arith))
+          (subst (RuledOut s) (loop .before .lowest .ensures) (loop .loop .inv .1 1 (omega arith)));
+    }
 
 pub nearest-spec : {M : Type 1} → statement M
 nearest-spec =

@@ -1,14 +1,17 @@
 -- `block_sums::said` meets its contract: all of it is known of the number that the 32 words make. Assumes nothing.
 use mathlib.Core.Path.{_≡_, sym, ap, _∙_}
+use mathlib.Core.Bool.{true, false}
 use mathlib.Core.List.{List, [], _∷_}
 use Prim.Native.Nat.{ℕ, _%_, _^_, _<_}
 use native.Mathlib.Nat.{mod-lt}
 use native.Mathlib.Omega.{arith}
 use lib.Bits.{mask-lt}
 use lib.Count.{ones}
-use lib.ListN.{getD, take, drop}
+use lib.Dec.{leb}
+use lib.ListN.{length, getD, take, drop}
 use lib.Pow.{pow-pos}
 use borrow.Author.Needs.{needs}
+use borrow.Author.Tests.{le-leb, lt-leb}
 use Rattle.words.specs.Digits.{digits, joined}
 use Rattle.words.proofs.Bit.{odd-lt}
 use Rattle.words.proofs.Digits.{digits-low, digits-take}
@@ -19,13 +22,16 @@ use Rattle.block_sums.proofs.said.Statement.{statement}
 use Rattle.block_sums.proofs.said.Tie as tie
 
 returns : tie.Need-returns
-returns c = λ all. absurd (omega arith)
+returns c =
+    let ws : List ℕ = c .before .before .args .words .now in
+    let few : leb 32 (length ws) ≡ false = lt-leb 32 (length ws) (omega arith) in
+    record { answer = rw few }
 
 cast-system : tie.Need-cast-system
 cast-system c = omega (arith, mask-lt (ones (c .columns-of .result)) 1)
 
 returns-2 : tie.Need-returns-2
-returns-2 c = λ every.
+returns-2 c =
     let after-columns = c .before .before in
     let after-rows = after-columns .before in
     let h = after-rows .before .before in
@@ -38,10 +44,11 @@ returns-2 c = λ every.
     let a = b .before in
     let start = a .before .before in
     let ws : List ℕ = start .before .args .words .now in
+    let every : leb 32 (length ws) ≡ true = le-leb 32 (length ws) (omega arith) in
     let w : ℕ = joined 16 ws % 2 ^ 512 in
     let low : w < 2 ^ 512 = mod-lt (joined 16 ws) (pow-pos 512) in
     let words : digits 16 32 w ≡ take 32 ws =
-    digits-low 16 32 (joined 16 ws) ∙ digits-take 16 32 ws every (λ i. omega (arith, start .shared-slice-known .given i)) in
+    digits-low 16 32 (joined 16 ws) ∙ digits-take 16 32 ws (omega arith) (λ i. omega (arith, start .shared-slice-known .given i)) in
     let read : List ℕ =
     a .four .result ∷ b .four2 .result ∷ k .four3 .result ∷ d .four4 .result ∷ e .four5 .result ∷ f .four6 .result ∷ g .four7 .result
     ∷ h .four8 .result ∷ [] in
@@ -53,7 +60,7 @@ returns-2 c = λ every.
     after-columns .columns-of .ensures ∙ rw (part 0, part 1, part 2, part 3, part 4, part 5, part 6, part 7) (all-columns w low) in
     let diagonals = with-system w low columns (halves w low (λ x. x) 15 64 (λ x l. l) (omega arith)
     (c .before .diagonals-of .ensures (upper .at w) (ap (drop 4) parts)) (c .diagonals-of2 .ensures w (ap (take 4) parts))) in
-    (λ i. record { rows = rows i; columns = columns i; diagonals = diagonals i }) ∙ ap saidBy words
+    record { answer = rw every ((λ i. record { rows = rows i; columns = columns i; diagonals = diagonals i }) ∙ ap saidBy words) }
 
 pub said-spec : {M : Type 1} → statement M
 said-spec =

@@ -1,5 +1,5 @@
 -- `block_words::write` meets its contract: the data, and what it says behind it, is the codeword. Assumes nothing.
-use mathlib.Core.Path.{_≡_, refl, sym, ap, ap₂, _∙_, subst}
+use mathlib.Core.Path.{_≡_, sym, ap, ap₂, _∙_, subst}
 use mathlib.Core.List.{List, _++_, append-nil}
 use Prim.Native.Nat.{ℕ, _+_, _*_, _/_, _%_, _^_, _<_}
 use native.Mathlib.Omega.{arith}
@@ -7,12 +7,14 @@ use lib.ListN.{length, take, drop-of-length-le}
 use lib.Pow.{split}
 use lib.Seq.{sets, sets-eq, paste, take-paste, length-paste}
 use borrow.Author.Needs.{needs}
+use borrow.Author.Tests.{eq-eqb, ne-eqb}
 use Rattle.words.specs.Digits.{digits, joined, Below}
 use Rattle.words.proofs.Digits.{digits-take, digits-joined, joined-digits, joined-lt, joined-append}
 use Rattle.block_code.specs.Code.{codeword}
 use Rattle.block_code.specs.Checks.{saidBy, checkWords}
 use Rattle.block_code.specs.declared.Checks.{Checks}
 use Rattle.block_code.proofs.Syndromes.{diagonals-lt}
+use Rattle.block_sums.proofs.Outcomes.{said-all}
 use Rattle.block_words.proofs.write.Statement.{statement}
 use Rattle.block_words.proofs.write.Tie as tie
 
@@ -71,16 +73,19 @@ module _ (values : List ℕ) (n : length values ≡ 32) (h : Below 16 values) (k
       ∙ ap (digits 16 38) (codeword-words d (joined-lt 16 32 values n h))
 
 returns : tie.Need-returns
-returns c = ((λ (n, m). absurd (c .if1 .taken n)), λ other. refl)
+returns c = record { after = rw (ne-eqb _ _ (c .if1 .taken)) }
 
 returns-2 : tie.Need-returns-2
-returns-2 c = ((λ (n, m). absurd (c .if2 .taken m)), λ other. refl)
+returns-2 c = record { after = rw (eq-eqb _ _ (c .before .if1 .left), ne-eqb _ _ (c .if2 .taken)) }
 
 hold-requires : tie.Need-hold-requires
 hold-requires c κs =
     let lent = c .before .before .before .before .before .before .before .before .before in
-    let values : List ℕ = lent .before .args .values .now in
-    (omega arith, fits values (omega arith) (λ i. omega (arith, lent .shared-slice-known .given i)) (c .said .result) (c .said .ensures (omega arith)))
+    let values : List ℕ = lent .before .args .values .now in (
+      omega arith,
+      fits values (omega arith) (λ i. omega (arith, lent .shared-slice-known .given i)) (c .said .result)
+          (said-all (c .said .ensures) (omega arith)),
+    )
 
 returns-3 : tie.Need-returns-3
 returns-3 c =
@@ -89,13 +94,16 @@ returns-3 c =
     let words : List ℕ = lent .before .args .words .now in
     let copy = c .before .before .before .before .before .before .before .copy in
     let said = c .before .before .before .said in
-    let hold = c .before .before .hold in (
-      (λ (n, m).
-          written values n (λ i. omega (arith, lent .shared-slice-known .given i)) (said .result) (said .ensures (omega arith)) words (hold .last .0)
-          m (omega arith) (λ i. omega (arith, c .slice-known3 .given i))
-          (hold .ensures ∙ ap (λ (ws : List ℕ). sets ws 32 (checkWords (said .result))) (copy .ensures))),
-      (λ other. absurd (other (omega arith, omega arith))),
-    )
+    let hold = c .before .before .hold in
+    let n : length values ≡ 32 = omega arith in
+    let m : length words ≡ 38 = omega arith in
+    record {
+      after =
+          rw (eq-eqb (length values) 32 n, eq-eqb (length words) 38 m)
+          (written values n (λ i. omega (arith, lent .shared-slice-known .given i)) (said .result) (said-all (said .ensures) (omega arith)) words
+          (hold .last .0) m (omega arith) (λ i. omega (arith, c .slice-known3 .given i))
+          (hold .ensures ∙ ap (λ (ws : List ℕ). sets ws 32 (checkWords (said .result))) (copy .ensures)));
+    }
 
 pub write-spec : {M : Type 1} → statement M
 write-spec =

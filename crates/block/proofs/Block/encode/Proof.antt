@@ -18,7 +18,7 @@ returns-3 c =
     let lent = c .before .before .before .before .before .before .before in
     let write = c .before .before .write in (
       encoded (lent .before .args .values .now) (lent .before .args .words .now) (write .last .1 .0) (omega arith) (omega arith)
-          (λ i. omega (arith, lent .shared-slice-known .given i)) (write .ensures .0 (omega arith, omega arith)),
+          (λ i. omega (arith, lent .shared-slice-known .given i)) (write .ensures),
       constants,
     )
 

@@ -1,10 +1,11 @@
 -- `block::Block::scrub` meets its contract. Assumes nothing.
-use mathlib.Core.Path.{refl, sym, _∙_, subst}
+use mathlib.Core.Path.{sym, _∙_}
 use mathlib.Core.List.{List}
 use Prim.Native.Nat.{ℕ}
 use native.Mathlib.Omega.{arith}
 use borrow.Author.Needs.{needs}
-use Rattle.block_code.specs.Checks.{IsNone}
+use Rattle.block_code.proofs.Mixing.{none-set, some-set}
+use Rattle.block_words.proofs.Outcomes.{syndrome-all}
 use Rattle.block.proofs.Outcomes.{other-length, is-clean}
 use Rattle.block.proofs.Block.scrub.Statement.{statement}
 use Rattle.block.proofs.Block.scrub.Tie as tie
@@ -17,12 +18,15 @@ returns-2 c =
     let ws : List ℕ = c .before .before .before .before .before .before .args .words .now in
     let s = c .before .before .syndrome in
     is-clean ws (omega arith, λ i. omega (arith, c .before .before .before .before .before .slice-known .given i))
-    (sym (s .ensures .0 (omega arith)) ∙ subst (IsNone (s .result)) (c .if2 .taken) (c .before .is-none .ensures) .yes refl)
+    (sym (syndrome-all (s .ensures) (omega arith)) ∙ none-set (s .result) (sym (c .before .is-none .ensures .answer) ∙ c .if2 .taken))
 
 mend-requires : tie.Need-mend-requires
 mend-requires c κs =
-    let s = c .before .before .before .syndrome in
-    (omega arith, s .ensures .0 (omega arith), subst (IsNone (s .result)) (c .before .if2 .left) (c .before .before .is-none .ensures) .no refl)
+    let s = c .before .before .before .syndrome in (
+      omega arith,
+      syndrome-all (s .ensures) (omega arith),
+      some-set (s .result) (sym (c .before .before .is-none .ensures .answer) ∙ c .before .if2 .left),
+    )
 
 pub scrub-spec : {M : Type 1} → statement M
 scrub-spec =
