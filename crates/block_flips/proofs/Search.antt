@@ -77,10 +77,10 @@ module _ (s : Checks) (p : ℕ) where
       sym (ap (λ (k : Checks). mixed k (ofPlace p)) (sym e) ∙ mixed-comm (mixed (ofPlace p) (ofPlace r)) (ofPlace p)
       ∙ mixed-back (ofPlace p) (ofPlace r))
 
-  -- p is not all, and it is the only place that can go with it
-  not-alone-nor-paired : noneSet (mixed s (ofPlace p)) ≡ false
+  -- something is left, and no other place explains it
+  ruled-out : noneSet (mixed s (ofPlace p)) ≡ false
       → ((r : ℕ) → p < 608 → r < 608 → ofPlace r ≡ mixed s (ofPlace p) → p ≡ r) → RuledOut s p
-  not-alone-nor-paired n only = record {
+  ruled-out n only = record {
     alone = λ h e. some-set (mixed s (ofPlace p)) n (none-left s p e);
     paired = λ r h l ne e. ne (only r h l (left r e));
   }
@@ -97,11 +97,11 @@ module _ (s : Checks) (p : ℕ) where
       go (inr (inl m)) = rw (le-ltb p q (omega arith), lt-ltb q p m) (m, h, mixed-comm (ofPlace q) (ofPlace p) ∙ is)
       go (inr (inr m)) =
           rw (le-ltb p q (omega arith), le-ltb q p (omega arith))
-          (not-alone-nor-paired n (λ r g k e. same-place p r g k (ap ofPlace m ∙ a .sound l ∙ sym e)))
+          (ruled-out n (λ r g k e. same-place p r g k (ap ofPlace m ∙ a .sound l ∙ sym e)))
 
   -- what is left is not none, and no place alone explains it
   pub tried-more : (q : ℕ) → noneSet (mixed s (ofPlace p)) ≡ false → OnlyPlace (mixed s (ofPlace p)) q → 608 ≤ q → Attempted s p More
-  tried-more q n a l = not-alone-nor-paired n (λ r h m e. absurd (omega (arith, l, a .all r m e)))
+  tried-more q n a l = ruled-out n (λ r h m e. absurd (omega (arith, l, a .all r m e)))
 
   pub tried-nowhere : 608 ≤ p → Attempted s p More
   tried-nowhere l = record { alone = λ h. absurd (omega arith); paired = λ q h. absurd (omega arith) }

@@ -6,6 +6,8 @@
 // column is left, the row and the diagonal are. Else, if the lowest row, column and diagonal meet, they meet at a place. If they do not,
 // and there are two columns, the lowest row has the second: the first is another place's, or a flipped check. If there is one column, it
 // has the highest row: a lower one is a flipped check. And where no data place is flipped, the lowest check is.
+//
+// The public function is a step of the block's calls, which accepts every input (specs/Steps.antt).
 ghost use mathlib.Core.Path.{_≡_};
 ghost use mathlib.Core.Logic.{_⊎_};
 ghost use Prim.Native.Nat.{_+_, _-_, _*_, _^_, _≤_, _<_};
