@@ -22,6 +22,7 @@
 ghost use Rattle.codes.specs.Promises.{States};
 ghost use Rattle.grid_code.specs.Code.{gridCode};
 ghost use Rattle.grid.specs.Calls.{Encoded, Numbered, Parted, Judged, Decoded};
+use grid_trials::Near;
 
 pub struct Grid {
     pub rows: [u8; 8],
@@ -85,17 +86,14 @@ impl Grid {
         ensures { λ r. ⌜ Decoded (self .rows) r ⌝ }
     {
         let rows = self.rows;
-        let word = self.number();
-        let near = grid_trials::nearest(word, grid_rows::number(grid_rows::mended(rows)));
-        let flips = near.flips;
-        if Grid::RADIUS < flips {
+        let Near::Within { number, flips } = grid_trials::nearest(rows) else {
             return Answer {
                 verdict: Verdict::Lost,
                 grid: self,
             };
-        }
-        let data = grid_code::data_of(grid_code::places_of(near.number));
-        let grid = Grid::of_number(near.number);
+        };
+        let data = grid_code::data_of(grid_code::places_of(number));
+        let grid = Grid::of_number(number);
         if flips == 0 {
             return Answer {
                 verdict: Verdict::Clean(data),

@@ -2,3 +2,4 @@ pub mod Codeword
 pub mod Distance
 pub mod Places
 pub mod Promises
+pub mod Outcomes

@@ -1,25 +1,19 @@
 -- What specs/Promises.antt says of the grid's code holds. Assumes nothing.
-use mathlib.Core.Path.{_≡_, refl, sym, ap, _∙_}
-use Prim.Native.Nat.{ℕ, _*_, _^_, _≤_, _<_}
+use mathlib.Core.Path.{_≡_, refl, sym, _∙_}
+use Prim.Native.Nat.{ℕ, _≤_}
 use native.Mathlib.Nat.{le-trans, le-antisymm}
 use native.Mathlib.Omega.{arith}
 use lib.Count.{ones}
 use lib.Dec.{lit<, lit≤}
-use Rattle.words.specs.Word.{bit, dist}
+use Rattle.words.specs.Word.{dist}
 use Rattle.words.proofs.Digits.{bit-digits, joined-digits, digits-joined, dist-digits}
-use Rattle.words.proofs.Sum.{sum-eq, sum-bits}
 use Rattle.codes.specs.Promises.{States}
 use Rattle.codes.proofs.Promises.{every-code}
-use Rattle.grid_code.specs.Equations.{dataBit, dataOf, Codeword}
 use Rattle.grid_code.specs.Code.{codeword, gridCode}
 use Rattle.grid_code.specs.Promises.{GridPromises}
 use Rattle.grid_code.proofs.Codeword.{is-codeword, one-solution, one-value}
 use Rattle.grid_code.proofs.Distance.{in-product, codeword-lt, distance}
-
-data-is : (d g : ℕ) → d < 2 ^ 16 → Codeword d g → dataOf g ≡ d
-data-is d g h p =
-    sum-eq 16 (λ k. dataBit g k * 2 ^ k) (λ k. bit d k * 2 ^ k) (λ k l. ap (λ (x : ℕ). x * 2 ^ k) (p .data-places k l))
-    ∙ sum-bits 16 d h
+use Rattle.grid_code.proofs.Places.{data-is}
 
 -- the grids of 0 and 1
 sixteen-apart : dist (codeword 0) (codeword 1) ≡ 16

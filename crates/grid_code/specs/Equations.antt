@@ -17,7 +17,7 @@ abbrev pub dataBit : ℕ → ℕ → ℕ
 dataBit g k = inRow g (k / 4) (k % 4)
 
 -- the data that stands in a grid
-abbrev pub dataOf : ℕ → ℕ
+unfoldable pub dataOf : ℕ → ℕ
 dataOf g = sumTo 16 (λ k. dataBit g k * 2 ^ k)
 
 -- g is the grid of the data d.

@@ -1,18 +1,19 @@
 // The code of the grid, over numbers: its data places, as one number with row r in byte r, and the grid that has them.
 //
 // specs/Equations.antt has the parities of document 01, specs/Code.antt their one solution for each data value, and specs/Promises.antt
-// what is proved of the code. The type and its calls are in the crate grid; each function here accepts every number.
+// what is proved of the code. The type and its calls are in the crate grid; the functions here are steps of them (specs/Steps.antt).
 ghost use mathlib.Core.Path.{_≡_};
 ghost use Prim.Native.Nat.{ℕ, _/_, _%_, _^_, _<_};
-ghost use lib.Bits.{bitAnd};
+ghost use Rattle.grid_code.specs.Equations.{dataOf};
 ghost use Rattle.grid_code.specs.Code.{codeword};
+ghost use Rattle.grid_code.specs.Steps.{Arranged, Completed, Masked, Gathered};
 
 // How far from the word read a codeword may be: the grid's radius.
 pub const RADIUS: u32 = 7;
 
 // The data places: data bit k goes to row k / 4, place k mod 4, of rows 0 to 3 as one number.
 pub fn data_places(value: u16) -> u32
-    ensures { λ r. ⌜ r ≡ bitAnd (codeword value) 0x0F0F_0F0F ⌝ }
+    ensures { λ r. ⌜ Arranged value r ⌝ }
 {
     let v = value as u32;
     let pairs = (v ^ (v << 8)) & 0x00FF_00FF;
@@ -22,8 +23,8 @@ pub fn data_places(value: u16) -> u32
 // Rows 0 to 3 from their data places, all four rows at a time: each data place, set once more wherever it counts. Place 4 is the parity of
 // places 0, 1, 2, place 5 that of 0, 2, 3, place 6 that of 1, 2, 3; so place 7, that of all before it, is that of 0, 1, 3. No two of the
 // places set meet, so a sum sets them, and the compiler makes one product of it.
-pub fn upper(places: u32) -> u32
-    ensures { λ r. ⌜ ((d : ℕ) → d < 2 ^ 16 → places ≡ bitAnd (codeword d) 0x0F0F_0F0F → r ≡ codeword d % 2 ^ 32) ⌝ }
+fn upper(places: u32) -> u32
+    ensures { λ r. ⌜ r ≡ codeword (dataOf places) % 2 ^ 32 ⌝ }
 {
     let lowest = 0x0101_0101;
     let a = places & lowest;
@@ -39,7 +40,7 @@ pub fn upper(places: u32) -> u32
 // Rows 4 to 7 from rows 0 to 3. Each of them is the parity of all four but one: row 4 leaves out row 2, row 5 row 1, row 6 row 0, and row
 // 7, since rows 4 to 6 add up to row 3, leaves out row 3. So each row takes the row two further on and the one opposite, and all move up by
 // one. As one term, the rows in the other order are one instruction.
-pub fn lower(rows: u32) -> u32
+fn lower(rows: u32) -> u32
     ensures { λ r. ⌜ ((d : ℕ) → d < 2 ^ 16 → rows ≡ codeword d % 2 ^ 32 → r ≡ codeword d / 2 ^ 32) ⌝ }
 {
     let pairs = rows ^ (rows << 16) ^ (rows >> 16);
@@ -51,9 +52,9 @@ pub fn lower(rows: u32) -> u32
     (mixed << 8) ^ (mixed >> 24)
 }
 
-// The grid with these data places.
+// The grid with these data places. What else `places` has set counts for nothing.
 pub fn completed(places: u32) -> u64
-    ensures { λ r. ⌜ ((d : ℕ) → d < 2 ^ 16 → places ≡ bitAnd (codeword d) 0x0F0F_0F0F → r ≡ codeword d) ⌝ }
+    ensures { λ r. ⌜ Completed places r ⌝ }
 {
     let rows = upper(places);
     ((lower(rows) as u64) << 32) | (rows as u64)
@@ -61,15 +62,16 @@ pub fn completed(places: u32) -> u64
 
 // The data places of a grid.
 pub fn places_of(w: u64) -> u32
-    ensures { λ r. ⌜ r ≡ bitAnd w 0x0F0F_0F0F ⌝ }
+    ensures { λ r. ⌜ Masked w r ⌝ }
 {
     (w & 0x0F0F_0F0F) as u32
 }
 
-// The data that stands in the data places.
+// The data that stands in the data places. What else `places` has set counts for nothing.
 pub fn data_of(places: u32) -> u16
-    ensures { λ r. ⌜ (bitAnd places 0x0F0F_0F0F ≡ places → bitAnd (codeword r) 0x0F0F_0F0F ≡ places) ⌝ }
+    ensures { λ r. ⌜ Gathered places r ⌝ }
 {
-    let pairs = (places ^ (places >> 4)) & 0x00FF_00FF;
+    let nibbles = places & 0x0F0F_0F0F;
+    let pairs = (nibbles ^ (nibbles >> 4)) & 0x00FF_00FF;
     ((pairs ^ (pairs >> 8)) & 0xFFFF) as u16
 }

@@ -1,12 +1,10 @@
 // The rows of a grid: as one number, row r in byte r, lowest byte first; and each row put right by itself. The row code has distance 4: one
 // flip is undone, and of two it is known that there are two.
 //
-// specs/Rows.antt says what a row that is put right is. Each public function accepts every input.
+// specs/Rows.antt says what each public function computes, and what a row that is put right is.
 ghost use mathlib.Core.Path.{_≡_};
-ghost use mathlib.Core.List.{map};
 ghost use Prim.Native.Nat.{_+_, _*_, _%_, _^_, _<_};
-ghost use Rattle.words.specs.Digits.{digits, joined};
-ghost use Rattle.grid_rows.specs.Rows.{mendedRow};
+ghost use Rattle.grid_rows.specs.Rows.{Packed, Unpacked, MendedRows};
 
 // The lowest byte.
 fn byte(w: u64) -> u8
@@ -24,7 +22,7 @@ fn with_row(above: u64, row: u8) -> u64
 
 // The rows as a number, ..
 pub fn number(rows: [u8; 8]) -> u64
-    ensures { λ r. ⌜ r ≡ joined 8 rows ⌝ }
+    ensures { λ r. ⌜ Packed rows r ⌝ }
 {
     let a = with_row(rows[7] as u64, rows[6]);
     let b = with_row(a, rows[5]);
@@ -37,7 +35,7 @@ pub fn number(rows: [u8; 8]) -> u64
 
 // .. and the rows of a number.
 pub fn of_number(w: u64) -> [u8; 8]
-    ensures { λ r. ⌜ r ≡ digits 8 8 w ⌝ }
+    ensures { λ r. ⌜ Unpacked w r ⌝ }
 {
     let b = w >> 8;
     let c = b >> 8;
@@ -85,7 +83,7 @@ const FLIPS: [u8; 16] = [
 // The rows copied, and each put right: in places 0 to 3 its data places; place 4 is set where the row needed one flip or two, place 5 where
 // it needed two. A trial asks for no more.
 pub fn mended(rows: [u8; 8]) -> [u8; 8]
-    ensures { λ r. ⌜ r ≡ map mendedRow rows ⌝ }
+    ensures { λ r. ⌜ MendedRows rows r ⌝ }
 {
     let checks = CHECKS;
     let flips = FLIPS;

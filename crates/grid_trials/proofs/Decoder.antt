@@ -1,51 +1,36 @@
--- Why two trials decide: a codeword within 7 places agrees with the rows put right in one of them, and its data places come out. Assumes
--- nothing.
+-- Why two trials decide: a codeword within 7 places agrees with the rows put right in one of them, and its data comes out. Assumes nothing.
 use mathlib.Core.Path.{_≡_, refl, sym, ap, ap₂, _∙_, subst}
 use mathlib.Core.Logic.{_⊎_, inl, inr}
 use mathlib.Core.List.{List, map}
 use Prim.Native.Nat.{ℕ, zero, suc, _+_, _*_, _/_, _%_, _^_, _≤_, _<_, min}
-use native.Mathlib.Nat.{lt-of-le-of-lt}
 use native.Mathlib.Decide.{decLe}
 use native.Mathlib.Omega.{arith}
-use lib.Bits.{bitAnd, differ, and-le-r}
+use lib.Bits.{bitAnd, differ}
 use lib.Dec.{lit<}
 use lib.ListN.{length, getD, length-map}
 use Rattle.words.specs.Word.{bit, dist, combined}
 use Rattle.words.specs.Digits.{joined, Below}
-use Rattle.words.proofs.Bit.{bit-lt, bit-and, bit-low, bit-shr, eq-of-bits}
+use Rattle.words.proofs.Bit.{bit-lt, bit-and, bit-low, bit-shr}
 use Rattle.words.proofs.Digits.{bit-digits, digits-below, dist-digits}
 use Rattle.words.proofs.Linear.{combined-eq}
 use Rattle.words.proofs.Sum.{sum-eq}
 use Rattle.words.proofs.Test.{same-below}
+use Rattle.codes.specs.Verdict.{answered}
 use Rattle.codes.specs.Product.{Candidate, aside}
 use Rattle.codes.proofs.Address.{distance4}
+use Rattle.codes.proofs.Promises.{found, none-near}
 use Rattle.codes.proofs.Trials.{candidate-column, every-product}
-use Rattle.grid_code.specs.Equations.{inColumn}
-use Rattle.grid_code.specs.Code.{codeword}
+use Rattle.grid_code.specs.Equations.{inColumn, dataOf}
+use Rattle.grid_code.specs.Code.{codeword, gridCode}
 use Rattle.grid_code.specs.Sides.{rowEntries, colEntries, sides, rowOf}
-use Rattle.grid_code.proofs.Codeword.{eighth}
-use Rattle.grid_code.proofs.Places.{gather, gather-lt, gathered}
-use Rattle.grid_code.proofs.Distance.{in-product, codeword-lt}
+use Rattle.grid_code.specs.Steps.{Completed, Masked}
+use Rattle.grid_code.proofs.Places.{same-data, completes, data-back, data-lt}
+use Rattle.grid_code.proofs.Distance.{in-product, codeword-lt, distance}
 use Rattle.grid_code.proofs.Promises.{promised}
-use Rattle.grid_rows.specs.Rows.{fixed, mendedRow}
+use Rattle.grid_rows.specs.Rows.{fixed, mendedRow, Packed, MendedRows}
 use Rattle.grid_rows.proofs.Repair.{repair, kept, kept-row, kept-below}
-use Rattle.grid_trials.specs.Steps.{Mended, Agrees, Solved, Tried, Nearby}
-
--- words that agree in the data places, row by row and column by column
-same-places : (s y : ℕ) → ((c r : ℕ) → c < 4 → r < 8 → inColumn s c r ≡ inColumn y c r) → bitAnd s 0x0F0F_0F0F ≡ bitAnd y 0x0F0F_0F0F
-same-places s y h =
-    eq-of-bits 32 (bitAnd s 0x0F0F_0F0F) (bitAnd y 0x0F0F_0F0F) (lt-of-le-of-lt (and-le-r s 0x0F0F_0F0F) (lit< tt))
-    (lt-of-le-of-lt (and-le-r y 0x0F0F_0F0F) (lit< tt))
-    (λ i l. bit-and s 0x0F0F_0F0F i ∙ each i l (decLe (i % 8) 3) ∙ sym (bit-and y 0x0F0F_0F0F i))
-  where
-    each : (i : ℕ) → i < 32 → Dec (i % 8 ≤ 3) → min (bit s i) (bit 0x0F0F_0F0F i) ≡ min (bit y i) (bit 0x0F0F_0F0F i)
-    each i l (yes k) =
-        let (e, hr, hc) = eighth i (omega arith) in
-        ap (λ (x : ℕ). min x (bit 0x0F0F_0F0F i)) (sym (ap (bit s) e) ∙ h (i % 8) (i / 8) (omega arith) hr ∙ ap (bit y) e)
-    each i l (no k) =
-        let z : bit 0x0F0F_0F0F i ≡ 0 =
-        ap (bit 0x0F0F_0F0F) (omega arith) ∙ same-below 32 (λ i. bit 0x0F0F_0F0F (i / 8 * 8 + 4 + i % 4)) (λ i. 0) tt i l in
-        omega arith
+use Rattle.grid_trials.specs.Steps.{Mended, Agrees, Solved, Tried, Decided, nearOf, Nearby}
+use Rattle.grid_trials.specs.declared.Near.the-variants.{Within, Beyond}
 
 -- ---- a trial
 
@@ -66,9 +51,9 @@ module _ (rows : List ℕ) (n : length rows ≡ 8) (small : Below 8 rows) where
       ∙ kept-row rows r ∙ ap mendedRow (sym (word-row r))
 
   -- .. as numbers that are known to be theirs
-  pub is-mended : (word x : ℕ) (kept : List ℕ) → word ≡ joined 8 rows → x ≡ joined 8 kept → kept ≡ map mendedRow rows → Mended word x
+  is-mended : (word x : ℕ) (kept : List ℕ) → Packed rows word → Packed kept x → MendedRows rows kept → Mended word x
   is-mended word x kept e s k =
-      subst (λ (w : ℕ). Mended w x) (sym e) (subst (Mended (joined 8 rows)) (sym (s ∙ ap (joined 8) k)) made-row)
+      subst (λ (w : ℕ). Mended w x) (sym (e .answer)) (subst (Mended (joined 8 rows)) (sym (s .answer ∙ ap (joined 8) (k .answer))) made-row)
 
 -- w is the word read, and x what the code keeps of its rows
 module _ (w x : ℕ) (made : Mended w x) where
@@ -116,36 +101,75 @@ module _ (w x : ℕ) (made : Mended w x) where
         (candidate-column sides fixed t (rowOf w) (rowOf (codeword d)) cand c);
   }
 
-  pub tried : (t s places number : ℕ) → 0 < t → t < 3 → s < 2 ^ 64 → Solved x (bitAnd (x / 2 ^ (3 + t)) 0x0101_0101_0101_0101) s
-      → places ≡ bitAnd s 0x0F0F_0F0F
-      → ((d : ℕ) → d < 2 ^ 16 → places ≡ bitAnd (codeword d) 0x0F0F_0F0F → number ≡ codeword d) → Tried t w number (dist w number)
-  tried t s places number p l fits solved e completed = record {
-    reached = record {
-      value = gather .at (bitAnd s 0x0F0F_0F0F);
-      below = gather-lt (bitAnd s 0x0F0F_0F0F);
-      is = completed (gather .at (bitAnd s 0x0F0F_0F0F)) (gather-lt (bitAnd s 0x0F0F_0F0F)) (e ∙ sym (gathered s fits));
-      places = refl;
-    };
+  pub tried : (t s places number : ℕ) → 0 < t → t < 3 → Solved x (bitAnd (x / 2 ^ (3 + t)) 0x0101_0101_0101_0101) s → Masked s places
+      → Completed places number → Tried t w number (dist w number)
+  tried t s places number p l solved taken completed = record {
+    reached = record { value = dataOf s; below = data-lt s; is = is; places = refl };
     all = λ d h cand.
-        completed d h
-        (e
-        ∙ same-places s (codeword d)
-        (λ c r hc hr. solved (codeword d) c r (omega arith) hr (column-code d h c (omega arith)) (agrees t d p l cand c hc)));
+        is
+        ∙ ap codeword
+        (same-data s (codeword d)
+        (λ k m.
+        solved (codeword d) (k % 4) (k / 4) (omega arith) (omega arith) (column-code d h (k % 4) (omega arith))
+        (agrees t d p l cand (k % 4) (omega arith)))
+        ∙ data-back d h);
   }
+    where
+      is : number ≡ codeword (dataOf s)
+      is = completes s (taken .answer) completed
 
 -- ---- both trials
 
 -- what the first trial reached is too far: then the second reaches what is near
-pub both-trials : (word first m second n : ℕ) → word < 2 ^ 64 → Tried 2 word first m → 7 < m → Tried 1 word second n → Nearby word second n
+pub both-trials : (word first m second n : ℕ) → word < 2 ^ 64 → Tried 2 word first m → 7 < m → Tried 1 word second n → Decided word second n
 both-trials word first m second n fits one far two = record {
   reached = two .reached;
   all = λ d l near.
       each d l near
-      (every-product sides .trials (distance4 rowEntries tt) (distance4 colEntries tt) fixed repair .two-trials (rowOf word) (rowOf (codeword d))
-      (λ r h. digits-below 8 8 word r) (in-product d l) (subst (λ (x : ℕ). x ≤ 7) (dist-digits 8 8 word (codeword d) fits (codeword-lt d l)) near));
+      (every-product sides .trials (distance4 rowEntries tt) (distance4 colEntries tt) fixed repair .two-trials (rowOf word)
+      (rowOf (codeword d)) (λ r h. digits-below 8 8 word r) (in-product d l)
+      (subst (λ (x : ℕ). x ≤ 7) (dist-digits 8 8 word (codeword d) fits (codeword-lt d l)) near));
 }
   where
     each : (d : ℕ) → d < 2 ^ 16 → dist word (codeword d) ≤ 7
         → Candidate sides fixed 2 (rowOf word) (rowOf (codeword d)) ⊎ Candidate sides fixed 1 (rowOf word) (rowOf (codeword d)) → n ≤ 7
     each d l near (inl c) = absurd (omega (arith, near, far, one .reached .places ∙ ap (dist word) (one .all d l c)))
     each d l near (inr c) = omega (arith, near, two .reached .places ∙ ap (dist word) (two .all d l c))
+
+-- ---- the answer
+
+near-answered : (d n : ℕ) → nearOf (answered d n) ≡ Within (codeword d) n
+near-answered d zero = refl
+near-answered d (suc n) = refl
+
+-- what the trials decide on, from the rows put right
+module _ (rows : List ℕ) (n : length rows ≡ 8) (small : Below 8 rows) (word x : ℕ) (put-right : List ℕ)
+    (is : Packed rows word) (kept : Packed put-right x) (put : MendedRows rows put-right)
+    (number flips : ℕ) (by : Mended word x → Decided word number flips) where
+  decided : Decided word number flips
+  decided = by (is-mended rows n small word x put-right is kept put)
+
+  -- it is near enough: then it is the answer
+  pub within : flips ≤ 7 → Nearby rows (Within number flips)
+  within near =
+      let d : ℕ = decided .reached .value in
+      let off : flips ≡ dist (joined 8 rows) (codeword d) = decided .reached .places ∙ ap₂ dist (is .answer) (decided .reached .is) in
+      record {
+        answer =
+            ap₂ Within (decided .reached .is) off
+            ∙ sym
+            (ap nearOf
+            (found gridCode 16 distance (lit< tt) (joined 8 rows) d (decided .reached .below) (subst (λ (k : ℕ). k ≤ 7) off near))
+            ∙ near-answered d (dist (joined 8 rows) (codeword d)));
+      }
+
+  -- it is not: then no codeword is
+  pub beyond : 7 < flips → Nearby rows Beyond
+  beyond far = record {
+    answer = sym (ap nearOf (none-near gridCode (joined 8 rows) (λ d l. each d l (decLe 8 (dist (joined 8 rows) (codeword d))))));
+  }
+    where
+      each : (d : ℕ) → d < 2 ^ 16 → Dec (8 ≤ dist (joined 8 rows) (codeword d)) → 7 < dist (joined 8 rows) (codeword d)
+      each d l (yes h) = h
+      each d l (no h) =
+          absurd (omega (arith, far, decided .all d l (subst (λ (w : ℕ). dist w (codeword d) ≤ 7) (sym (is .answer)) (omega arith))))

@@ -1,14 +1,19 @@
 -- What the steps of the decoder compute, so that their contracts can say it. No promise to a caller cites this file. Assumes nothing.
 use mathlib.Core.Path.{_≡_}
 use mathlib.Core.Logic.{_⊎_}
+use mathlib.Core.List.{List}
 use Prim.Native.Nat.{ℕ, _+_, _*_, _^_, _≤_, _<_, min}
 use lib.Bits.{bitAnd, differ}
 use Rattle.words.specs.Word.{dist, combined, sumTo}
+use Rattle.words.specs.Digits.{joined}
+use Rattle.codes.specs.Verdict.{Verdict, clean, mended, lost, verdict}
 use Rattle.codes.specs.Product.{Candidate}
 use Rattle.grid_code.specs.Equations.{inColumn}
 use Rattle.grid_code.specs.Code.{codeword, gridCode}
 use Rattle.grid_code.specs.Sides.{colEntries, sides, rowOf}
 use Rattle.grid_rows.specs.Rows.{fixed, mendedRow}
+use Rattle.grid_trials.specs.declared.Near.{Near}
+use Rattle.grid_trials.specs.declared.Near.the-variants.{Within, Beyond}
 
 -- rows has what a trial needs of each row of the word
 abbrev pub Mended : ℕ → ℕ → Type 0
@@ -49,6 +54,16 @@ pub record Tried (t word number flips : ℕ) : Type 0 where
   pub all : (d : ℕ) → d < 2 ^ 16 → Candidate sides fixed t (rowOf word) (rowOf (codeword d)) → number ≡ codeword d
 
 -- .. and it is within the radius of the word if any codeword is.
-pub record Nearby (word number flips : ℕ) : Type 0 where
+pub record Decided (word number flips : ℕ) : Type 0 where
   pub reached : Reached word number flips
   pub all : (d : ℕ) → d < 2 ^ 16 → dist word (codeword d) ≤ gridCode .radius → flips ≤ gridCode .radius
+
+-- the codeword and the flips of a verdict, or that there is none
+abbrev pub nearOf : Verdict → Near
+nearOf (clean d) = Within (codeword d) 0
+nearOf (mended d n) = Within (codeword d) n
+nearOf lost = Beyond
+
+-- `nearest`: those of document 01's verdict on the grid.
+pub record Nearby (rows : List ℕ) (r : Near) : Type 0 where
+  pub answer : r ≡ nearOf (verdict gridCode (joined 8 rows))

@@ -53,7 +53,7 @@ fn filled(aside: u64) -> u64
 // The rows put right, in each column in which a codeword agrees with them. The rows that have place 0 marked are set aside. In a column of
 // even parity the first of them is switched, so that all columns are odd, and one place of each is named. With one row set aside or none,
 // that place is the last one wrong. With more, no other row is wrong: where the place named is in another row, all those set aside were.
-pub fn solved(rows: u64, marks: u64) -> u64
+pub(crate) fn solved(rows: u64, marks: u64) -> u64
     ensures { λ s. ⌜ Solved rows (bitAnd marks 0x0101_0101_0101_0101) s ⌝ }
 {
     let aside = marks & 0x0101_0101_0101_0101;

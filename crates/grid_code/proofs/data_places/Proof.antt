@@ -14,7 +14,7 @@ made = mask (pairs ⊕ shl pairs 4 32) 0x0F0F_0F0F
 
 returns : tie.Need-returns
 unfolding codeword
-returns c = agree made (mask grids 0x0F0F_0F0F) 16 tt (c .args .value) (c .fits .value .fits)
+returns c = record { answer = agree made (mask grids 0x0F0F_0F0F) 16 tt (c .args .value) (c .fits .value .fits) }
 
 pub data-places-spec : {M : Type 1} → statement M
 data-places-spec = tie.close (tie.spec returns)

@@ -1,13 +1,15 @@
--- `grid_code::upper` meets its contract: both sides are linear in the data, and agree at each data bit. Assumes nothing.
-use mathlib.Core.Path.{_≡_, ap, ap₂, _∙_}
+-- `grid_code::upper` meets its contract: both sides are linear, and agree at each place. Assumes nothing.
+use mathlib.Core.Path.{_≡_, sym, ap, ap₂, _∙_}
 use Prim.Native.Nat.{ℕ, _+_, _*_, _/_, _%_, _^_, _≤_, _<_}
 use native.Mathlib.Omega.{arith}
 use lib.Bits.{bitAnd, bitXor, and-le-r}
 use lib.Dec.{T, ltb, eqb}
 use Rattle.words.proofs.Test.{allBelow}
-use Rattle.words.proofs.Linear.{Linear, same, _⊕_, shr, times, low, mask, then, agree}
+use Rattle.words.proofs.Linear.{Linear, same, _⊕_, shr, times, low, then, agree}
+use Rattle.grid_code.specs.Equations.{dataOf}
 use Rattle.grid_code.specs.Code.{codeword}
 use Rattle.grid_code.proofs.Codeword.{grids}
+use Rattle.grid_code.proofs.Places.{gather, gathered}
 use Rattle.grid_code.proofs.upper.Statement.{statement}
 use Rattle.grid_code.proofs.upper.Tie as tie
 
@@ -16,11 +18,12 @@ module _ (h i j k : ℕ) (p : T (ltb h 256)) (q : T (ltb i 256)) (r : T (ltb j 2
   abbrev made : Linear
   made = times same 4 h p ⊕ times (shr same 1) 4 i q ⊕ times (shr same 2) 4 j r ⊕ times (shr same 3) 4 k s
 
-  -- .. is right, if it is at each data bit
-  rows-made : T (allBelow 16 (λ n. eqb (then (mask grids 0x0F0F_0F0F) made .at (2 ^ n)) (low grids 32 .at (2 ^ n)))) → (places d : ℕ) → d < 2 ^ 16
-      → places ≡ bitAnd (codeword d) 0x0F0F_0F0F → made .at places ≡ codeword d % 2 ^ 32
+  -- .. is right, if it is at each place
+  rows-made : T (allBelow 32 (λ n. eqb (made .at (2 ^ n)) (then gather (low grids 32) .at (2 ^ n)))) → (places : ℕ) → places < 2 ^ 32
+      → made .at places ≡ codeword (dataOf places) % 2 ^ 32
   unfolding codeword
-  rows-made t places d l e = ap (made .at) e ∙ agree (then (mask grids 0x0F0F_0F0F) made) (low grids 32) 16 t d l
+  rows-made t places l =
+      agree made (then gather (low grids 32)) 32 t places l ∙ sym (ap (λ (d : ℕ). codeword d % 2 ^ 32) (gathered places l))
 
 -- places that are set by sums, as products
 module _ (x : ℕ) where
@@ -44,10 +47,10 @@ module _ (x : ℕ) where
 
 returns : tie.Need-returns
 unfolding codeword
-returns c d l e =
+returns c =
     let p : ℕ = c .args .places in
     ap₂ bitXor (ap₂ bitXor (ap₂ bitXor (place0 p) (place1 (p / 2))) (place2 (p / 4))) (place3 (p / 8))
-    ∙ rows-made 0xB1 0xD2 0x74 0xE8 tt tt tt tt tt p d l e
+    ∙ rows-made 0xB1 0xD2 0x74 0xE8 tt tt tt tt tt p (c .fits .places .fits)
 
 pub upper-spec : {M : Type 1} → statement M
 upper-spec =

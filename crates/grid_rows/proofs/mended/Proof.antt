@@ -79,7 +79,7 @@ returns c =
     let l = c .before .loop in
     let rows : List ℕ = c .before .before .args .t1 in
     let n : length rows ≡ 8 = search needs in
-    l .inv .1 ∙ partly-all mendedRow rows (l .r) (omega arith)
+    record { answer = l .inv .1 ∙ partly-all mendedRow rows (l .r) (omega arith) }
 
 pub mended-spec : {M : Type 1} → statement M
 mended-spec =

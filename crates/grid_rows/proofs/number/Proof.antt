@@ -32,11 +32,14 @@ returns c =
     let rows : List ℕ = c .before .before .before .before .before .before .before .args .t1 in
     let n : length rows ≡ 8 = search needs in
     let small : (i : ℕ) → Fits w8 (getD rows i 0) = λ i. search needs in
-    stacked (λ i. getD rows i 0) (λ i. small i .fits) _ _ _ _ _ _ _ (c .before .before .before .before .before .before .with-row .ensures)
-    (c .before .before .before .before .before .with-row2 .ensures) (c .before .before .before .before .with-row3 .ensures)
-    (c .before .before .before .with-row4 .ensures) (c .before .before .with-row5 .ensures) (c .before .with-row6 .ensures)
-    (c .with-row7 .ensures)
-    ∙ ap (joined 8) (sym (listed-getD 8 rows n))
+    record {
+      answer =
+          stacked (λ i. getD rows i 0) (λ i. small i .fits) _ _ _ _ _ _ _
+          (c .before .before .before .before .before .before .with-row .ensures) (c .before .before .before .before .before .with-row2 .ensures)
+          (c .before .before .before .before .with-row3 .ensures) (c .before .before .before .with-row4 .ensures)
+          (c .before .before .with-row5 .ensures) (c .before .with-row6 .ensures) (c .with-row7 .ensures)
+          ∙ ap (joined 8) (sym (listed-getD 8 rows n));
+    }
 
 pub number-spec : {M : Type 1} → statement M
 number-spec =

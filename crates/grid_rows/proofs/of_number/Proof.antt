@@ -5,16 +5,18 @@ use Rattle.grid_rows.proofs.of_number.Statement.{statement}
 use Rattle.grid_rows.proofs.of_number.Tie as tie
 
 returns : tie.Need-returns
-returns c i =
-    c .before .before .before .before .before .before .before .byte .ensures i
-    ∷ c .before .before .before .before .before .before .byte2 .ensures i
-    ∷ c .before .before .before .before .before .byte3 .ensures i
-    ∷ c .before .before .before .before .byte4 .ensures i
-    ∷ c .before .before .before .byte5 .ensures i
-    ∷ c .before .before .byte6 .ensures i
-    ∷ c .before .byte7 .ensures i
-    ∷ c .byte8 .ensures i
-    ∷ []
+returns c = record {
+  answer = λ i.
+      c .before .before .before .before .before .before .before .byte .ensures i
+      ∷ c .before .before .before .before .before .before .byte2 .ensures i
+      ∷ c .before .before .before .before .before .byte3 .ensures i
+      ∷ c .before .before .before .before .byte4 .ensures i
+      ∷ c .before .before .before .byte5 .ensures i
+      ∷ c .before .before .byte6 .ensures i
+      ∷ c .before .byte7 .ensures i
+      ∷ c .byte8 .ensures i
+      ∷ [];
+}
 
 pub of-number-spec : {M : Type 1} → statement M
 of-number-spec =

@@ -1,25 +1,36 @@
--- `grid_trials::nearest` meets its contract: two trials are enough. Assumes nothing.
-use Prim.Native.Nat.{_^_, _<_}
+-- `grid_trials::nearest` meets its contract: what the trials decide on is the answer, or none is. Assumes nothing.
+use mathlib.Core.List.{List}
+use Prim.Native.Nat.{ℕ}
 use native.Mathlib.Omega.{arith}
-use lib.Dec.{lit<}
+use lib.ListN.{getD}
+use mir.Syntax.{w8}
+use mir.Val.{Fits}
 use borrow.Author.Needs.{needs}
-use Rattle.grid_trials.proofs.Decoder.{both-trials}
+use Rattle.grid_trials.proofs.Decoder.{within, beyond}
 use Rattle.grid_trials.proofs.nearest.Statement.{statement}
 use Rattle.grid_trials.proofs.nearest.Tie as tie
 
 returns : tie.Need-returns
-returns c made = record {
-  reached = c .before .before .trial .ensures made .reached;
-  all = λ d l n. omega (arith, c .if1 .taken);
-}
+returns c =
+    let s = c .before .before in
+    let rows : List ℕ = s .before .before .before .args .rows in
+    let small : (i : ℕ) → Fits w8 (getD rows i 0) = λ i. search needs in
+    let word = s .before .before .number in
+    beyond rows (search needs) (λ i. small i .fits) (word .result) (s .number2 .result) (s .before .mended .result) (word .ensures)
+    (s .number2 .ensures) (s .before .mended .ensures) (c .before .trials .result .number) (c .before .trials .result .flips)
+    (c .before .trials .ensures) (omega (arith, c .if1 .taken))
 
 returns-2 : tie.Need-returns-2
-returns-2 c made =
-    let first = c .before .before .before .trial in
-    let word = c .before .before .before .before .args .word in
-    let fits : word < 2 ^ 64 = search needs in
-    both-trials word (first .result .number) (first .result .flips) (c .trial2 .result .number) (c .trial2 .result .flips) fits
-    (first .ensures made) (omega (arith, c .before .if1 .left)) (c .trial2 .ensures made)
+returns-2 c =
+    let s = c .before .before in
+    let rows : List ℕ = s .before .before .before .args .rows in
+    let small : (i : ℕ) → Fits w8 (getD rows i 0) = λ i. search needs in
+    let word = s .before .before .number in
+    within rows (search needs) (λ i. small i .fits) (word .result) (s .number2 .result) (s .before .mended .result) (word .ensures)
+    (s .number2 .ensures) (s .before .mended .ensures) (c .before .trials .result .number) (c .before .trials .result .flips)
+    (c .before .trials .ensures) (omega (arith, c .if1 .left))
 
 pub nearest-spec : {M : Type 1} → statement M
-nearest-spec = tie.close (tie.spec (λ c κs. (lit< tt, lit< tt)) returns (λ c κs. (lit< tt, lit< tt)) returns-2)
+nearest-spec =
+    tie.close
+    (tie.spec (λ c κs. search needs) (λ c κs. search needs) (λ c κs. search needs) (λ c κs. search needs) returns returns-2)

@@ -1,5 +1,4 @@
 -- `grid_trials::trial` meets its contract: the codeword with the data places that came out, and its places counted. Assumes nothing.
-use Prim.Native.Nat.{_^_, _<_}
 use borrow.Author.Needs.{needs}
 use Rattle.words.specs.Word.{dist}
 use Rattle.grid_trials.proofs.Decoder.{tried}
@@ -10,9 +9,8 @@ returns : tie.Need-returns
 unfolding dist
 returns c made =
     let s = c .before .before .before in
-    let fits : c .before .before .solved .result < 2 ^ 64 = search needs in
     tried (s .args .word) (s .args .rows) made (s .args .least) (c .before .before .solved .result) (c .before .places-of .result)
-    (c .completed .result) (s .pre .0) (s .pre .1) fits (c .before .before .solved .ensures) (c .before .places-of .ensures)
+    (c .completed .result) (s .pre .0) (s .pre .1) (c .before .before .solved .ensures) (c .before .places-of .ensures)
     (c .completed .ensures)
 
 pub trial-spec : {M : Type 1} → statement M

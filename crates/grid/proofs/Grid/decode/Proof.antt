@@ -15,8 +15,8 @@ returns : tie.Need-returns
 returns c =
     let rows : List ℕ = c .before .before .before .before .before .args .self .rows in
     let small : (i : ℕ) → Fits w8 (getD rows i 0) = λ i. search needs in
-    is-clean rows (search needs) (λ i. small i .fits) (c .before .before .number .result) (c .before .before .number .ensures .answer)
-    (c .before .places-of .result) (c .data-of .result) (search needs) (c .before .places-of .ensures) (c .data-of .ensures)
+    is-clean rows (c .before .before .number .result) (c .before .before .number .ensures .answer) (search needs) (λ i. small i .fits)
+    (c .before .places-of .result) (c .data-of .result) (c .before .places-of .ensures) (c .data-of .ensures)
     (subst (Judged rows) (c .before .before .before .if1 .taken) (c .before .before .before .before .is-clean .ensures))
 
 pub decode-spec : {M : Type 1} → statement M

@@ -8,6 +8,7 @@ use Rattle.words.proofs.Digits.{joined-digits}
 use Rattle.grid_code.specs.Equations.{Codeword}
 use Rattle.grid_code.specs.Code.{codeword}
 use Rattle.grid_code.proofs.Codeword.{is-codeword}
+use Rattle.grid_code.proofs.Places.{completes, data-back}
 use Rattle.grid_code.proofs.Promises.{promised}
 use Rattle.grid.specs.Calls.{Encoded}
 use Rattle.grid.proofs.Grid.encode.Statement.{statement}
@@ -25,7 +26,9 @@ returns c =
     let l : d < 2 ^ 16 = search needs in (
       encoded d (c .of-number .result .rows) l
           (c .of-number .ensures .answer
-          ∙ ap (digits 8 8) (c .before .completed .ensures d l (c .before .before .data-places .ensures))),
+          ∙ ap (digits 8 8)
+          (completes (codeword d) (c .before .before .data-places .ensures .answer) (c .before .completed .ensures)
+          ∙ ap codeword (data-back d l))),
       promised .constants,
     )
 
