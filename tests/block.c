@@ -56,7 +56,7 @@ static void worked_numbers(void)
         {{[31] = 0x8000, [33] = 0x8000, [34] = 0x8000, [37] = 0xC000}},
         {{6, 5, 3}},
     };
-    struct test t = {.name = "the worked numbers of document 01, block"};
+    struct test t = {.name = "the worked numbers, block"};
     for (unsigned k = 0; k < sizeof worked / sizeof *worked; k++) {
         uint16_t library[WORDS], second[WORDS];
         compare(&t, block_encode(worked[k].words, DATA, library, WORDS), 0, k);

@@ -115,7 +115,7 @@ static void compare_image(struct test *t, struct image *im)
     number++;
 }
 
-/* the image of document 01 for the bench */
+/* docs/FORMAT.md, An image byte by byte */
 static void worked_image(void)
 {
     static const struct image example = {
@@ -125,7 +125,7 @@ static void worked_image(void)
     };
     static const uint32_t tallies[TALLIES] = {2, 0, 1, 1, 1};
     static struct state lent;
-    struct test t = {.name = "the worked image of document 01"};
+    struct test t = {.name = "the worked image"};
     lend(&lent, &example, (struct lengths){TALLIES, 2, 2, 4, 0});
     check(&t, &lent);
     read_back(&t, &lent);
@@ -160,7 +160,7 @@ static void try_rooms(struct test *t, struct image *im)
     number++;
 }
 
-/* with tallies of another length the archive alone refuses, and document 01 has no number for it */
+/* with tallies of another length the archive alone refuses, and the table has no number for it */
 static void try_tallies(struct test *t, struct image *im)
 {
     static struct state before, after;

@@ -10,7 +10,7 @@
 
 enum { LONGEST_TITLE = 24, MOST_NUMBERS = 512, LONGEST_ROOM = 40000, LONGEST_WRITTEN = 9 + LONGEST_TITLE + 8 * MOST_NUMBERS };
 
-/* document 01's numbers for lengths, title bytes and room, as the library returns them */
+/* the refusals for lengths, title bytes and room, as the library returns them */
 static const uint64_t LENGTH = (uint64_t)3 << 32, TITLE_BYTE = (uint64_t)4 << 32, TOO_SHORT = (uint64_t)6 << 32;
 
 static struct test plain = {.name = "the plain version's image write, the same titles, numbers and rooms"};

@@ -70,7 +70,7 @@ static void worked_words(void)
         {0x000001B1000000B1, {.data = 1, .flips = 7, .repaired = 0xB100B1B1000000B1}},
         {0xFFFFFFFFFFFFFFFF, {.data = 65535, .flips = 0, .repaired = 0xFFFFFFFFFFFFFFFF}},
     };
-    struct test t = {.name = "decode, the worked words of document 01"};
+    struct test t = {.name = "decode, the worked words"};
     for (unsigned k = 0; k < sizeof worked / sizeof *worked; k++) {
         struct answer second = second_decode(worked[k].read);
         uint64_t verdict, repaired;

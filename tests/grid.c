@@ -43,7 +43,7 @@ static void worked_numbers(void)
         {15, 0xFF00FFFF000000FF},
         {65535, 0xFFFFFFFFFFFFFFFF},
     };
-    struct test t = {.name = "encode, the worked numbers of document 01"};
+    struct test t = {.name = "encode, the worked numbers"};
     for (unsigned k = 0; k < sizeof worked / sizeof *worked; k++) {
         compare(&t, grid_encode(worked[k].data), worked[k].grid, k);
         compare(&t, second_grid(worked[k].data), worked[k].grid, k);

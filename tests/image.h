@@ -1,4 +1,4 @@
-/* Images that are drawn, sound ones and ones that break rules of document 01, each with what is to be found there. */
+/* Images that are drawn, sound ones and ones that break rules (docs/FORMAT.md, The card image), each with what is to be found there. */
 #pragma once
 #include "draw.h"
 #include "second.h"
@@ -8,7 +8,7 @@ enum { TITLE = 0x01, GRIDS = 0x02, BLOCK = 0x03, END = 0x7F };
 enum { LONGEST_IMAGE = 32768, LONGEST_TITLE = 24, LONGEST_GRIDS = 4096, MOST_DATA_FIELDS = 16 };
 enum { GRID_BYTES = 8, BLOCK_WORDS = 38, BLOCK_BYTES = 76, BLOCK_PLACES = 608 };
 
-/* document 01's number for an image, and one where whoever made it does not know */
+/* the number with which an image is refused, 0 if it is sound, and one where whoever made it does not know */
 enum { SOUND = 0, TOO_LONG = 3, BROKEN = 4, NOT_KNOWN = 255 };
 
 struct image {

@@ -9,25 +9,25 @@ uint32_t grid_radius(void);
 uint32_t grid_length(void);
 uint32_t grid_distance(void);
 
-/* A verdict is one number: the data, from bit 16 on the flips, from bit 24 on document 01's number (0 none, 1 lost). It is for three slices
-   of one length; for others nothing is done. */
+/* A verdict is one number: the data, from bit 16 on the flips, from bit 24 on the refusal's number (0 none, 1 lost). It is for three
+   slices of one length; for others nothing is done. */
 void grid_decode(const uint64_t *words, uint64_t n, uint64_t *verdicts, uint64_t m, uint64_t *repaired, uint64_t k);
 
-/* It returns document 01's number, 0 or 3. The tally has five places: grids, clean, mended, lost, flips; with any other length 255 is
-   returned and nothing is done. */
+/* It returns the refusal's number, 3, or 0 if there is none. The tally has five places: grids, clean, mended, lost, flips; with any other
+   length 255 is returned and nothing is done. */
 uint32_t page_scrub(uint64_t *page, uint64_t n, uint32_t *tally, uint64_t m);
 
 uint32_t block_radius(void);
 uint32_t block_length(void);
 uint32_t block_distance(void);
 
-/* The words of the block of 32 data words, into 38 words. It returns document 01's number, 0 or 3. */
+/* The words of the block of 32 data words, into 38 words. It returns the refusal's number, 3, or 0 if there is none. */
 uint32_t block_encode(const uint16_t *values, uint64_t n, uint16_t *words, uint64_t m);
 
-/* A block scrubbed in place. It returns the flips, and from bit 8 on document 01's number (0 none, 2 lost, 3 another length than 38). */
+/* A block scrubbed in place. It returns the flips, and from bit 8 on the refusal's number (0 none, 2 lost, 3 another length than 38). */
 uint32_t block_scrub(uint16_t *words, uint64_t n);
 
-/* The calls on an image return document 01's number (0 none, 3, 4, 6) from bit 32 on. Below it: for 4 the place of the break, for 3 and 6
+/* The calls on an image return the refusal's number (0 none, 3, 4, 6) from bit 32 on. Below it: for 4 the place of the break, for 3 and 6
    zero, for 0 what is said here. */
 
 /* The grids, and from bit 16 on the blocks. */

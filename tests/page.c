@@ -108,7 +108,7 @@ static void pages(void)
     report_drawn(plain);
 }
 
-/* a tally that has not five places is refused by the archive alone, and document 01 has no number for it */
+/* a tally that has not five places is refused by the archive alone, and the table has no number for it */
 static void tallies(void)
 {
     struct test t = {.name = "page scrub, tallies of other lengths"};

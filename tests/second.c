@@ -1,4 +1,4 @@
-/* The second program's grid and page. The sentences of document 01 stand above what they say. */
+/* The second program's grid and page. The rules (docs/FORMAT.md) stand above what they say. */
 #include "second.h"
 
 int printf(const char *, ...);
@@ -9,7 +9,7 @@ enum { VALUES = 65536, LONGEST_PAGE = 512, LENGTH_NOT_ALLOWED = 3, LOST = 1 };
 
 unsigned second_radius = 7;
 
-/* A grid as document 01 has it: what stands at row r, place c. */
+/* A grid place by place: what stands at row r, place c. */
 struct places {
     unsigned at[8][8];
 };

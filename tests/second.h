@@ -1,4 +1,4 @@
-/* The second program: document 01 once more, in C, written from the document alone and from no line of the library. */
+/* The second program: the rules (docs/FORMAT.md) once more, in C, written from the rules alone and from no line of the library. */
 #pragma once
 #include <stdint.h>
 
@@ -11,7 +11,7 @@ unsigned second_distance(uint64_t a, uint64_t b);
 /* In how many places a word differs from the codeword of each of the 65,536 data values. They stand until the next call. */
 const uint8_t *second_counts(uint64_t word);
 
-/* What a word read gives: document 01's number (0 where nothing is refused, 1 lost), the data and the flips (both 0 on refusal), and the
+/* What a word read gives: the refusal's number (0 where nothing is refused, 1 lost), the data and the flips (both 0 on refusal), and the
    repaired grid. */
 struct answer {
     uint32_t number, data, flips;
@@ -25,5 +25,5 @@ struct answer second_decode(uint64_t word);
 /* 7. `ties` sets it to 8, to see that a tie is found: two codewords may be 16 places apart. */
 extern unsigned second_radius;
 
-/* A page scrub. It returns document 01's number, 0 or 3; the tally is grids, clean, mended, lost and flips. */
+/* A page scrub. It returns the refusal's number, 3, or 0 if there is none; the tally is grids, clean, mended, lost and flips. */
 uint32_t second_scrub(uint64_t *page, uint64_t n, uint32_t tally[5]);

@@ -1,4 +1,4 @@
-/* The second program's block. The sentences of document 01 stand above what they say. */
+/* The second program's block. The rules (docs/FORMAT.md) stand above what they say. */
 #include "second_block.h"
 
 int printf(const char *, ...);
@@ -11,7 +11,7 @@ enum { LENGTH_NOT_ALLOWED = 3, LOST = 2 };
 
 unsigned second_block_system = 1;
 
-/* A block as document 01 has it: what stands at bit c of word r. */
+/* A block place by place: what stands at bit c of word r. */
 struct places {
     unsigned at[WORDS][BITS];
 };

@@ -1,14 +1,14 @@
-/* The second program's block: document 01 once more, in C, written from the document alone and from no line of the library. */
+/* The second program's block: the rules (docs/FORMAT.md) once more, in C, written from the rules alone and from no line of the library. */
 #pragma once
 #include <stdint.h>
 
 /* The block of 32 data words, place by place. The data words may be the block's own. */
 void second_block(const uint16_t values[32], uint16_t words[38]);
 
-/* The same for slices of any length. It returns document 01's number, 0 or 3. */
+/* The same for slices of any length. It returns the refusal's number, 3, or 0 if there is none. */
 uint32_t second_block_encode(const uint16_t *values, uint64_t n, uint16_t *words, uint64_t m);
 
-/* What a scrub returns: document 01's number (0 where nothing is refused, 2 lost, 3 a length not allowed) and the flips (0 on refusal). */
+/* What a scrub returns: the refusal's number (0 where nothing is refused, 2 lost, 3 a length not allowed) and the flips (0 on refusal). */
 struct block_answer {
     uint32_t number, flips;
 };

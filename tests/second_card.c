@@ -1,4 +1,4 @@
-/* The second program's card image, and what the bench prints of it. The sentences of document 01 stand above what they say. */
+/* The second program's card image, and what the bench prints of it. The rules (docs/FORMAT.md) stand above what they say. */
 #include "second_card.h"
 #include "second.h"
 #include "second_block.h"

@@ -1,8 +1,9 @@
-/* The second program's card image: document 01 once more, in C, written from the document alone and from no line of the library. */
+/* The second program's card image: the rules (docs/FORMAT.md) once more, in C, written from the rules alone and from no line of the
+   library. */
 #pragma once
 #include <stdint.h>
 
-/* What a call on an image returns: document 01's number (0 where nothing is refused, 3, 4 or 6) and the place of the break (0 where
+/* What a call on an image returns: the refusal's number (0 where nothing is refused, 3, 4 or 6) and the place of the break (0 where
    there is none); and, where nothing is refused, what the call tells of the title's length, the grids, the blocks and the bytes written. */
 struct image_answer {
     uint32_t number, place, title, grids, blocks, written;

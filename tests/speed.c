@@ -11,7 +11,7 @@ int strcmp(const char *, const char *);
 
 enum { WORDS = 1000, PAGE = 500, NUMBERS = 5, BLOCKS = 200, BLOCK_DATA = 32, BLOCK_WORDS = 38 };
 
-/* An answer is the flips, and from bit 8 on document 01's number, for a word and a block alike; for a grid of a page or of an image it is
+/* An answer is the flips, and from bit 8 on the refusal's number, for a word and a block alike; for a grid of a page or of an image it is
    1 if clean, for the check of an image what that returns, and for a number that is written or read back 1. */
 enum { GRID_LOST = 1 << 8, BLOCK_LOST = 2 << 8 };
 

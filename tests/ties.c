@@ -1,5 +1,5 @@
 /* The second program made to meet a tie, to see that it looks for one: `ties grid` and `ties block`. Each judges a word that has two nearest
-   codewords within a radius, or in a code, that is not document 01's. It has to stop there, with status 1. */
+   codewords within a radius, or in a code, that is none of ours. It has to stop there, with status 1. */
 #include "second.h"
 #include "second_block.h"
 

@@ -1,4 +1,4 @@
--- What the answers of the block's calls say, in document 01's terms. Assumes nothing.
+-- What the answers of the block's calls say: values, or a refusal (docs/FORMAT.md, The refusals). Assumes nothing.
 use mathlib.Core.List.{List}
 use Prim.Native.Nat.{ℕ}
 use lib.ListN.{take}
@@ -12,7 +12,7 @@ use Rattle.block.specs.declared.BlockVerdict.the-variants.{Clean, Mended
 use Rattle.block.specs.declared.BlockAnswer.{BlockAnswer}
 use Rattle.block.specs.declared.BlockAnswer.the-variants.{Done, Refused}
 
--- the answer for document 01's verdict: the data is in the words
+-- the answer for a verdict: the data is in the words
 abbrev pub answerOf : Verdict → BlockAnswer
 answerOf (clean d) = Done Clean
 answerOf (mended d n) = Done (Mended n)

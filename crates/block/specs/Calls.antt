@@ -23,8 +23,8 @@ pub record Encoded (values before : List ℕ) (r : EncodeAnswer) (exit : List �
   pub after : exit ≡ choose (allowed values before) (digits 16 38 (codeword (joined 16 values))) before
   pub meets : r ≡ Written → Codeword (joined 16 values) (joined 16 exit)
 
--- `Block::scrub`: document 01's verdict on exactly 38 words, which afterwards are the codeword, or as they were where there is none. Any
--- other length is refused, and nothing is written.
+-- `Block::scrub`: the verdict on exactly 38 words, which afterwards are the codeword, or as they were where there is none. Any other
+-- length is refused, and nothing is written.
 pub record Scrubbed (before : List ℕ) (r : BlockAnswer) (exit : List ℕ) : Type 0 where
   pub answer : r ≡ choose (eqb (length before) 38) (answerOf (verdict blockCode (joined 16 before))) (Refused Length)
   pub after : exit ≡ choose (eqb (length before) 38) (digits 16 38 (scrubbed blockCode (joined 16 before))) before

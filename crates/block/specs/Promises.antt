@@ -43,7 +43,7 @@ pub record ScrubPromises : Type 0 where
   -- .. of 38 words the verdict is given, or the block is lost and refused with 2.
   pub numbers : (ws exit : List ℕ) (r : BlockAnswer) → length ws ≡ 38 → Scrubbed ws r exit
       → ((v : Verdict) × (means r exit ≡ gives v)) ⊎ (means r exit ≡ refuses 2)
-  -- Answer and words are those of document 01's verdict, the codeword or the words as they were; and every word has a verdict.
+  -- Answer and words are those of the verdict by its definition, the codeword or the words as they were; and every word has a verdict.
   pub is-verdict : (ws exit : List ℕ) (r : BlockAnswer) (v : Verdict) → length ws ≡ 38 → Scrubbed ws r exit
       → IsVerdict blockCode (joined 16 ws) v
       → (means r exit ≡ replied LostBlock v) × (exit ≡ digits 16 38 (repaired blockCode (joined 16 ws) v))

@@ -1,7 +1,7 @@
 // The code of the block: its 96 checks as three numbers, and which of them a flipped place changes. What data says that they are is worked
 // out in the crate block_sums.
 //
-// specs/Equations.antt has the parities of document 01, specs/Code.antt their one solution for all data, and specs/Promises.antt what is
+// specs/Equations.antt has the parities of docs/FORMAT.md, specs/Code.antt their one solution for all data, and specs/Promises.antt what is
 // proved of the code. The type and its calls are in the crate block; each function here is a step of them, which accepts every input
 // (specs/Checks.antt, specs/Outcomes.antt).
 ghost use Rattle.block_code.specs.Checks.{Mixed, IsNone, OfPlace};

@@ -2,8 +2,8 @@
 //
 // The image is checked as a whole before anything is written (crate image), so a refused call leaves all that it was lent as it was.
 //
-// specs/Calls.antt says what the call answers and leaves, and specs/Answer.antt what that is in document 01's terms. What is shown of a
-// grid is in the crate value_read.
+// specs/Calls.antt says what the call answers and leaves, and specs/Answer.antt what the answer says. What is shown of a grid is in the
+// crate value_read (docs/FORMAT.md, Reading back).
 ghost use Rattle.card_read.specs.Calls.{Read};
 ghost use Rattle.card_read.specs.Steps.{ReadsGrids, ReadsFields, ReadFirst};
 use fields::BLOCK;

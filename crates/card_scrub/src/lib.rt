@@ -4,7 +4,7 @@
 // scrubbed one behind the other, each value by itself (crate value_scrub): a lost grid or block is counted, stays as it is, and is no
 // refusal of the call.
 //
-// specs/Calls.antt says what the call answers and leaves, and specs/Answer.antt what that is in document 01's terms.
+// specs/Calls.antt says what the call answers and leaves, and specs/Answer.antt what the answer says.
 ghost use mathlib.Core.Path.{_≡_};
 ghost use mathlib.Core.List.{[]};
 ghost use Rattle.codes.specs.Steps.{plus};

@@ -1,4 +1,4 @@
--- What the answer of the writer says, in document 01's terms. Assumes nothing.
+-- What the answer of the writer says: values, or a refusal (docs/FORMAT.md, The refusals). Assumes nothing.
 use Prim.Native.Nat.{ℕ}
 use Rattle.refusals.specs.Reply.{Reply, gives, refusal}
 use Rattle.card_write.specs.declared.WriteAnswer.{WriteAnswer}

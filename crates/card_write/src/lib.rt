@@ -1,6 +1,6 @@
 // The writer of card images: title, one grids field, end, laid over the front of a slice.
 //
-// specs/Calls.antt says what the call answers and leaves, and specs/Answer.antt what that is in document 01's terms.
+// specs/Calls.antt says what the call answers and leaves, and specs/Answer.antt what the answer says.
 ghost use mathlib.Core.Path.{_≡_};
 ghost use mathlib.Core.List.{map, _++_};
 ghost use Prim.Native.Nat.{_+_, _*_, _≤_, _<_};

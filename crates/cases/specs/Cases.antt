@@ -1,4 +1,4 @@
--- The worked numbers of document 01: one list, one claim (`cases-hold`). Assumes nothing.
+-- The worked numbers of docs/FORMAT.md: one list, one claim (`cases-hold`). Assumes nothing.
 use mathlib.Core.Path.{_≡_}
 use mathlib.Core.List.{List, [], _∷_}
 use Prim.Native.Nat.{ℕ, _+_, _*_, _^_}

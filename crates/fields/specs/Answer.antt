@@ -1,4 +1,4 @@
--- What the answer of `fields::front` says, in document 01's terms. Assumes nothing.
+-- What the answer of `fields::front` says: values, or a refusal (docs/FORMAT.md, The refusals). Assumes nothing.
 use Prim.Native.Nat.{ℕ}
 use Rattle.refusals.specs.declared.Refusal.the-variants.{Broken}
 use Rattle.refusals.specs.Reply.{Reply, gives, refusal}

@@ -1,4 +1,5 @@
--- A field of a card image: the rules of document 01, field by field. `rest` is the image from the field's own offset on. Assumes nothing.
+-- A field of a card image, and its rules (docs/FORMAT.md, The card image). `rest` is the image from the field's own offset on. Assumes
+-- nothing.
 use mathlib.Core.Bool.{Bool, _&&_}
 use mathlib.Core.List.{List, [], _∷_}
 use Prim.Native.Nat.{ℕ, suc, _+_, _*_, _%_}

@@ -29,7 +29,7 @@ pub record Parted (w : ℕ) (rows : List ℕ) : Type 0 where
 pub record Judged (rows : List ℕ) (r : Bool) : Type 0 where
   pub answer : r ≡ eqb (isClean (verdict gridCode (joined 8 rows))) 1
 
--- `Grid::decode` and `Grid::mend`: document 01's verdict on the grid, and beside it the codeword, or on refusal the grid as read.
+-- `Grid::decode` and `Grid::mend`: the verdict on the grid, and beside it the codeword, or on refusal the grid as read.
 pub record Decoded (rows : List ℕ) (r : Answer) : Type 0 where
   pub answer : verdictOf (r .verdict) ≡ verdict gridCode (joined 8 rows)
   pub repaired : r .grid .rows ≡ digits 8 8 (scrubbed gridCode (joined 8 rows))

@@ -20,7 +20,7 @@ use Rattle.grid.specs.declared.Answer.{Answer}
 
 -- What the answer of a decoder promises, whatever was read.
 pub record DecodePromises : Type 0 where
-  -- The verdict is document 01's, and there is no other.
+  -- The verdict is one by the definition, and there is no other.
   pub is-verdict : (rows : List ℕ) (r : Answer) → Decoded rows r → IsVerdict gridCode (joined 8 rows) (verdictOf (r .verdict))
   pub only : (rows : List ℕ) (r : Answer) (v : Verdict) → Decoded rows r → IsVerdict gridCode (joined 8 rows) v → v ≡ verdictOf (r .verdict)
   -- Demand 3: data is handed out exactly where some codeword is within 7 places; it is that codeword's, every other is further off, and the

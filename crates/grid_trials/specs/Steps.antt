@@ -64,6 +64,6 @@ nearOf (clean d) = Within (codeword d) 0
 nearOf (mended d n) = Within (codeword d) n
 nearOf lost = Beyond
 
--- `nearest`: those of document 01's verdict on the grid.
+-- `nearest`: those of the verdict on the grid.
 pub record Nearby (rows : List ℕ) (r : Near) : Type 0 where
   pub answer : r ≡ nearOf (verdict gridCode (joined 8 rows))

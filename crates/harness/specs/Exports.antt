@@ -8,13 +8,13 @@ use Rattle.refusals.specs.Reply.{Reply, gives, refused, numbered, numberOf}
 use Rattle.codes.specs.Verdict.{Verdict, clean, mended, lost, flipsOf, verdict, scrubbed}
 use Rattle.grid_code.specs.Code.{gridCode}
 
--- a verdict as one number: the data, the flips from bit 16 on, document 01's number from bit 24 on
+-- a verdict as one number: the data, the flips from bit 16 on, the number of a refusal from bit 24 on
 abbrev pub packed : Verdict → ℕ
 packed (clean d) = d
 packed (mended d n) = d + n * 65536
 packed lost = numberOf (numbered LostGrid) * 16777216
 
--- the reply of a block's scrub as one number: the flips, or document 01's number from bit 8 on
+-- the reply of a block's scrub as one number: the flips, or the number of a refusal from bit 8 on
 abbrev pub flipsOrNumber : Reply Verdict → ℕ
 flipsOrNumber (gives v) = flipsOf v
 flipsOrNumber (refused k) = numberOf k * 256

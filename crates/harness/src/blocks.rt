@@ -1,4 +1,4 @@
-// The block's calls, with document 01's numbers for their answers.
+// The block's calls, with their answers as numbers.
 ghost use mathlib.Core.Path.{_≡_};
 ghost use Rattle.refusals.specs.Reply.{numberIn};
 ghost use Rattle.block_code.specs.Code.{blockCode};
@@ -12,7 +12,7 @@ use block::BlockAnswer;
 use block::BlockVerdict;
 use block::EncodeAnswer;
 
-// The block of 32 data words, into 38 words. Document 01's number is returned.
+// The block of 32 data words, into 38 words. The number of the refusal is returned, and 0 where there is none.
 #[no_mangle]
 pub extern "C" fn block_encode(values: &[u16], words: &mut [u16]) -> u32
     ensures { λ r. ⌜ ((a : EncodeAnswer) × Encoded (now (values .entry)) (now (words .entry)) a (now (words .exit)) × (r ≡ numberIn (encodeMeans a (now (words .exit))))) ⌝ }
@@ -23,7 +23,7 @@ pub extern "C" fn block_encode(values: &[u16], words: &mut [u16]) -> u32
     }
 }
 
-// A block scrubbed. The flips are returned, or document 01's number from bit 8 on.
+// A block scrubbed. The flips are returned, or the number of the refusal from bit 8 on.
 #[no_mangle]
 pub extern "C" fn block_scrub(words: &mut [u16]) -> u32
     ensures { λ r. ⌜ ((a : BlockAnswer) × Scrubbed (now (words .entry)) a (now (words .exit)) × (r ≡ flipsOrNumber (means a (now (words .exit))))) ⌝ }

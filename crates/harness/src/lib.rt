@@ -58,7 +58,7 @@ pub extern "C" fn grid_distance() -> u32
     Grid::DISTANCE
 }
 
-// An answer as one number: the data, the flips from bit 16 on, document 01's number from bit 24 on.
+// An answer as one number: the data, the flips from bit 16 on, the number of a refusal from bit 24 on.
 fn packed(verdict: Verdict) -> u64
     ensures { λ r. ⌜ r ≡ packed (verdictOf verdict) ⌝ }
 {

@@ -24,7 +24,7 @@ use Rattle.card_read.specs.Answer.{means as readMeans}
 abbrev pub short : ℕ → ℕ
 short n = choose (leb n 65535) n 65535
 
--- document 01's number from bit 32 on, and below it two others
+-- the number of a refusal from bit 32 on, and below it two others
 abbrev pub packed : ℕ → ℕ → ℕ → ℕ
 packed number low high = number * 4294967296 + short high * 65536 + short low
 

@@ -27,7 +27,7 @@ fn short(n: usize) -> u64
     n as u64
 }
 
-// Document 01's number from bit 32 on. Below it stand the place of a refusal, or what the call gives.
+// The number of a refusal from bit 32 on. Below it stand its place, or what the call gives.
 fn packed(number: u32, low: usize, high: usize) -> u64
     ensures { λ r. ⌜ r ≡ packed number low high ⌝ }
 {

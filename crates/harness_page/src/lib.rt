@@ -3,8 +3,8 @@
 ghost use Rattle.harness_page.specs.Exports.{Exported};
 use page::PageAnswer;
 
-// A page scrubbed, with the five numbers in `tally`, which has five places; document 01's number is returned, and 255 where `tally` has
-// another length: then nothing is done.
+// A page scrubbed, with the five numbers in `tally`, which has five places. The number of the refusal is returned, 0 where there is none,
+// and 255 where `tally` has another length: then nothing is done.
 #[no_mangle]
 pub extern "C" fn page_scrub(page: &mut [u64], tally: &mut [u32]) -> u32
     ensures { λ r. ⌜ Exported (now (page .entry)) (now (tally .entry)) r (now (page .exit)) (now (tally .exit)) ⌝ }

@@ -1,4 +1,4 @@
--- What the answer of a check says, in document 01's terms. Assumes nothing.
+-- What the answer of a check says: values, or a refusal (docs/FORMAT.md, The refusals). Assumes nothing.
 use Prim.Native.Nat.{ℕ}
 use Rattle.refusals.specs.Reply.{Reply, gives, refusal}
 use Rattle.image.specs.declared.CheckAnswer.{CheckAnswer}

@@ -1,4 +1,4 @@
--- Document 01's table of refusals, and what a call says in its terms. Assumes nothing.
+-- The table of refusals (docs/FORMAT.md, The refusals), and what a call says in its terms. Assumes nothing.
 use Prim.Native.Nat.{ℕ}
 use Rattle.refusals.specs.declared.Refusal.{Refusal}
 use Rattle.refusals.specs.declared.Refusal.the-variants.{LostGrid, LostBlock, Length, Broken, Room}

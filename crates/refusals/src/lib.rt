@@ -1,7 +1,7 @@
-// The refusals of document 01: one list for every call. A call that can refuse answers `Done`, with what it gives, or `Refused` with one of
-// these, and a refusal passes through its callers whole.
+// The refusals (docs/FORMAT.md): one list for every call. A call that can refuse answers `Done`, with what it gives, or `Refused` with one
+// of these, and a refusal passes through its callers whole.
 //
-// specs/Reply.antt has document 01's table, and what an answer says in its terms; specs/Calls.antt what each call here promises.
+// specs/Reply.antt has the table, and what an answer says in its terms; specs/Calls.antt what each call here promises.
 ghost use Rattle.refusals.specs.Calls.{TableNumber, TablePlace};
 
 // A case for each number of the table. Broken has the place of the break: an offset in an image, or a byte's place in a title.
@@ -20,7 +20,7 @@ pub enum Place {
 }
 
 impl Refusal {
-    // Document 01's number.
+    // Its number in the table.
     pub fn number(self) -> u32
         ensures { λ r. ⌜ TableNumber self r ⌝ }
     {

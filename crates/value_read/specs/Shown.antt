@@ -1,4 +1,4 @@
--- What reading back gives for a grid, in document 01's terms. Assumes nothing.
+-- What reading back gives for a grid (docs/FORMAT.md, Reading back). Assumes nothing.
 use mathlib.Core.List.{List, map}
 use Prim.Native.Nat.{ℕ}
 use Rattle.codes.specs.Verdict.{Verdict, clean, mended, lost, verdict}
