@@ -10,16 +10,18 @@
      iscrub HEX                             G C M L F | G C M L F | HEX
      iread HEX TITLEROOM DATAROOM FLIPROOM  title T grids G | HEX | D:F D:F ..
      iwrite TITLE ROOM N N ..               HEX
+     help                                   CALL WORDS; CALL WORDS; ..
 
    G C M L F is a tally: all, clean, mended, lost, flips. D:F are the data and the flips of a grid. The blocks have as many words as they
    are given, the one that `benc` writes has 38. A refusal is `refused N`, and where there is a place of the break `refused 4 at PLACE`. A
-   line that is no such call, or lends more than 1,000,000 places, is answered `?`. */
+   line that is no such call, or lends more than 1,000,000 places, is answered `?`, and standard error has why. */
 #include "library.h"
 #include "text.h"
 
 int fflush(void *);
+int fprintf(void *, const char *, ...);
 long getline(char **, unsigned long *, void *);
-extern void *stdin;
+extern void *stdin, *stderr;
 
 enum { BLOCK_WORDS = 38, NUMBERS = 5, TALLIES = 10, LARGEST = 65535, LONGEST_ROOM = 1000000, LOST = 1, BROKEN = 4 };
 
@@ -169,13 +171,33 @@ static int iwrite(char **words, uint64_t n)
     return 1;
 }
 
-static const struct {
-    const char *name;
-    int (*call)(char **, uint64_t);
+static int help(char **, uint64_t);
+
+/* the words behind a call's name, as they are called above and as a sentence has them */
+static const struct call {
+    const char *name, *words, *wants;
+    int (*answer)(char **, uint64_t);
 } calls[] = {
-    {"genc", genc},     {"gdec", gdec},     {"page", page},   {"benc", benc},     {"bscrub", bscrub},
-    {"icheck", icheck}, {"iscrub", iscrub}, {"iread", iread}, {"iwrite", iwrite},
+    {"genc", "N", "one number up to 65535", genc},
+    {"gdec", "HEX16", "one number of 16 hex digits", gdec},
+    {"page", "HEX16 ..", "numbers of 16 hex digits, or -", page},
+    {"benc", "HEX4 ..", "numbers of 4 hex digits, or -", benc},
+    {"bscrub", "HEX4 ..", "numbers of 4 hex digits, or -", bscrub},
+    {"icheck", "HEX", "the bytes of an image, each of 2 hex digits, as one word, or -", icheck},
+    {"iscrub", "HEX", "the bytes of an image, each of 2 hex digits, as one word, or -", iscrub},
+    {"iread", "HEX TITLEROOM DATAROOM FLIPROOM", "the bytes of an image in hex, or -, and three numbers up to 1000000", iread},
+    {"iwrite", "TITLE ROOM N ..", "the bytes of a title in hex, or -, a number up to 1000000, and numbers up to 65535", iwrite},
+    {"help", "", "no word", help},
 };
+enum { CALLS = sizeof calls / sizeof *calls };
+
+static int help(char **words, uint64_t n)
+{
+    (void)words;
+    for (unsigned k = 0; n == 0 && k < CALLS; k++)
+        printf("%s%s%s%s", k == 0 ? "" : "; ", calls[k].name, *calls[k].words == 0 ? "" : " ", calls[k].words);
+    return n == 0;
+}
 
 /* the words of a line, which are taken apart where they stand; how many there are */
 static uint64_t split(char *line, uint64_t length, char **words)
@@ -189,13 +211,28 @@ static uint64_t split(char *line, uint64_t length, char **words)
     return n;
 }
 
-static int answer(char *line, uint64_t length)
+static const struct call *find_call(const char *name)
+{
+    for (unsigned k = 0; k < CALLS; k++)
+        if (strcmp(name, calls[k].name) == 0)
+            return &calls[k];
+    return 0;
+}
+
+/* It returns 0 if the line, which is number `at`, is no call, and has then said why. */
+static int answer(char *line, uint64_t length, unsigned long long at)
 {
     char **words = lend(length, sizeof *words);
     uint64_t n = strlen(line) == length ? split(line, length, words) : 0;
-    for (unsigned k = 0; n > 0 && k < sizeof calls / sizeof *calls; k++)
-        if (strcmp(words[0], calls[k].name) == 0)
-            return calls[k].call(words + 1, n - 1);
+    const struct call *call = n > 0 ? find_call(words[0]) : 0;
+    if (call != 0 && call->answer(words + 1, n - 1))
+        return 1;
+    if (n == 0)
+        fprintf(stderr, "line %llu: it has no word, or a byte 00\n", at);
+    else if (call == 0)
+        fprintf(stderr, "line %llu: no call is named \"%.40s\"; help lists them\n", at, words[0]);
+    else
+        fprintf(stderr, "line %llu: %s: it wants %s\n", at, call->name, call->wants);
     return 0;
 }
 
@@ -203,8 +240,9 @@ int main(void)
 {
     char *line = 0;
     unsigned long size = 0;
+    unsigned long long at = 0;
     for (long length; (length = getline(&line, &size, stdin)) > 0;) {
-        printf(answer(line, (uint64_t)length) ? "\n" : "?\n");
+        printf(answer(line, (uint64_t)length, ++at) ? "\n" : "?\n");
         fflush(0);
         take_back();
     }
