@@ -2,7 +2,7 @@
 use mathlib.Core.Path.{_≡_, sym, ap, ap₂, _∙_}
 use mathlib.Core.Bool.{Bool, true, false}
 use mathlib.Core.List.{List, _++_, map, map-append}
-use Prim.Native.Nat.{ℕ, _+_, _*_, _/_, _≤_, _<_}
+use Prim.Native.Nat.{ℕ, _+_, _/_, _≤_, _<_}
 use native.Mathlib.Omega.{arith}
 use lib.ListN.{length, take, drop, length-append, length-map}
 use borrow.Author.Tests.{le-leb, lt-leb}
@@ -13,7 +13,7 @@ use Rattle.refusals.specs.declared.Refusal.{Refusal}
 use Rattle.refusals.specs.declared.Refusal.the-variants.{Room}
 use Rattle.fields.specs.declared.Field.the-variants.{Grids}
 use Rattle.fields.specs.Fields.{value, fieldOf}
-use Rattle.fields.proofs.Fields.{known, length-value, grids-size}
+use Rattle.fields.proofs.Fields.{known, length-value}
 use Rattle.image.specs.Card.{Part, Card, sound, mostBytes, gridsIn, gridsAt, cardOf}
 use Rattle.image.proofs.Walks.{Front}
 use Rattle.image.proofs.Checking.{checked-found}
@@ -33,9 +33,6 @@ module _ (s : List ℕ) (ps : List Part) (n left next : ℕ) (f : fieldOf s ≡ 
   grids-many =
       ap (λ ps. length (gridsIn ps)) (front .is) ∙ length-append (wordsIn 8 (n / 8) (value s)) (gridsIn (front .behind))
       ∙ ap (λ (k : ℕ). k + length (gridsIn (front .behind))) (length-words 8 (n / 8) (value s))
-
-  pub whole-grids : n ≡ 8 * (n / 8)
-  whole-grids = omega (arith, grids-size n (known s f .1))
 
   -- what is laid behind the first of them
   pub read-on : (g : ℕ → ℕ) (part before t ys : List ℕ) → part ≡ value s → t ≡ laid (map g (gridsOf part)) before

@@ -1,7 +1,7 @@
 -- Reading back field after field: a grids field, a block, and one turn of the loop. With what is left read, all is. Assumes nothing.
-use mathlib.Core.Path.{_≡_, refl, sym, ap, _∙_, subst}
+use mathlib.Core.Path.{_≡_, sym, ap, _∙_, subst}
 use mathlib.Core.List.{List, _++_, append-assoc}
-use Prim.Native.Nat.{ℕ, _+_, _-_, _*_, _/_, _≤_}
+use Prim.Native.Nat.{ℕ, _+_, _-_, _/_, _≤_}
 use native.Mathlib.Omega.{arith}
 use lib.ListN.{length, take, drop, length-append, length-drop}
 use lib.Seq.{drop-drop, length-take-le}
@@ -16,7 +16,7 @@ use Rattle.value_read.specs.Shown.{dataOfGrid, flipsOfGrid, dataOfGrids, flipsO
 use Rattle.value_read.specs.Steps.{ReadValue}
 use Rattle.value_read.proofs.Room.{read-there}
 use Rattle.card_read.specs.Steps.{ReadsGrids, ReadsFields, Passed}
-use Rattle.card_read.proofs.Readings.{grids-many, whole-grids, read-on}
+use Rattle.card_read.proofs.Readings.{grids-many, read-on}
 
 -- ---- a grids field, and a block
 
@@ -48,7 +48,7 @@ module _ (s part numbers flips numbers′ flips′ : List ℕ) (n : ℕ) (r : Re
         room = st .room;
         grids-room = room;
         reads = reads-on;
-        onward = λ ns fs x. record {
+        completes = λ ns fs x. record {
           numbers-after = λ left at ps w.
               let front = grids-front at s ps left n f w in
               read-on s ps n (less left) (at + (3 + n)) f front dataOfGrid part numbers numbers′ ns is (both .0)
@@ -72,7 +72,7 @@ block-passed s numbers flips r f = record {
       let here : length (gridsIn (front .behind)) ≤ length ns = omega (arith, all, r .numbers-room, p) in
       let there : length (gridsIn (front .behind)) ≤ length fs = omega (arith, all, r .flips-room, q) in
       record { walks = block-walks-on s w f; numbers-room = here; flips-room = there };
-  onward = λ ns fs x. record {
+  completes = λ ns fs x. record {
     numbers-after = λ left at ps w.
         let front = block-front at s ps left f w in
         x .numbers-after (less left) (at + 79) (front .behind) (front .found) ∙ ap (λ ps. laid (dataOfGrids (gridsIn ps)) numbers) (sym (front .is));
@@ -85,8 +85,8 @@ block-passed s numbers flips r f = record {
 -- ---- one turn
 
 -- what is left, read behind the first k grids, makes the whole
-abbrev pub Onward : List ℕ → List ℕ → List ℕ → ℕ → ℕ → List ℕ → List ℕ → Type 0
-Onward rest numbers₀ flips₀ at k numbers flips =
+abbrev pub Completes : List ℕ → List ℕ → List ℕ → ℕ → ℕ → List ℕ → List ℕ → Type 0
+Completes rest numbers₀ flips₀ at k numbers flips =
     (ns fs : List ℕ) → ReadsGrids (drop at rest) (drop k numbers) (drop k flips) ns fs
     → ReadsGrids rest numbers₀ flips₀ (take k numbers ++ ns) (take k flips ++ fs)
 
@@ -120,7 +120,7 @@ module _ (slice back : List ℕ) (k g : ℕ) (inside : k ≤ length slice) where
 
 module _ (rest numbers₀ flips₀ numbers flips ns fs : List ℕ) (at k size g : ℕ) (n-inside : k ≤ length numbers) (f-inside : k ≤ length flips)
     (n-long : length ns ≡ length numbers - k) (f-long : length fs ≡ length flips - k)
-    (step : Passed (drop at rest) (drop k numbers) (drop k flips) size g ns fs) (inv : Onward rest numbers₀ flips₀ at k numbers flips) where
+    (step : Passed (drop at rest) (drop k numbers) (drop k flips) size g ns fs) (inv : Completes rest numbers₀ flips₀ at k numbers flips) where
   abbrev numbers′ : List ℕ
   numbers′ = returned numbers ns k g n-inside
 
@@ -136,7 +136,7 @@ module _ (rest numbers₀ flips₀ numbers flips ns fs : List ℕ) (at k size g 
       (ap length n ∙ omega (arith, length-drop g ns, n-long, length-drop k numbers))
       (ap length f ∙ omega (arith, length-drop g fs, f-long, length-drop k flips)))
 
-  pub turned : Onward rest numbers₀ flips₀ (at + size) (k + g) numbers′ flips′
+  pub turned : Completes rest numbers₀ flips₀ (at + size) (k + g) numbers′ flips′
   turned ms es x =
       let n = more-dropped numbers ns k g n-inside in
       let f = more-dropped flips fs k g f-inside in
@@ -144,7 +144,7 @@ module _ (rest numbers₀ flips₀ numbers flips ns fs : List ℕ) (at k size g 
       subst (λ l. ReadsGrids l (drop g ns) (drop g fs) ms es) (sym (drop-drop size at rest))
       (subst (λ l. ReadsGrids (drop (at + size) rest) (drop g ns) l ms es) f
       (subst (λ l. ReadsGrids (drop (at + size) rest) l (drop (k + g) flips′) ms es) n x)) in
-      let all = inv (take g ns ++ ms) (take g fs ++ es) (step .onward ms es there) in
+      let all = inv (take g ns ++ ms) (take g fs ++ es) (step .completes ms es there) in
       let first : take k numbers ++ (take g ns ++ ms) ≡ take (k + g) numbers′ ++ ms =
       sym (ap (λ l. l ++ ms) (more-taken numbers ns k g n-inside) ∙ append-assoc (take k numbers) (take g ns) ms) in
       let second : take k flips ++ (take g fs ++ es) ≡ take (k + g) flips′ ++ es =

@@ -29,7 +29,7 @@ pub record Passed (rest numbers flips : List ℕ) (size grids : ℕ) (numbers′
   pub room : size ≤ length rest
   pub grids-room : (grids ≤ length numbers) × (grids ≤ length flips)
   pub reads : (n f : List ℕ) → length n ≡ length numbers - grids → length f ≡ length flips - grids → ReadsFields (drop size rest) n f
-  pub onward : (n f : List ℕ) → ReadsGrids (drop size rest) (drop grids numbers′) (drop grids flips′) n f
+  pub completes : (n f : List ℕ) → ReadsGrids (drop size rest) (drop grids numbers′) (drop grids flips′) n f
       → ReadsGrids rest numbers flips (take grids numbers′ ++ n) (take grids flips′ ++ f)
 
 -- the field in front: a data field, or the end, and then nothing is left

@@ -130,9 +130,9 @@ module _ (s v : List ℕ) (n m : ℕ) (p : Part) (r : Tallies) (w : Walks s) (ro
         found = f .found;
       }
 
-  onward : (there : Tallies) (e : List ℕ) → ScrubbedFields (drop (3 + n) s) there e → ScrubbedFields s (summed r there) (take (3 + n) exit ++ e)
+  completes : (there : Tallies) (e : List ℕ) → ScrubbedFields (drop (3 + n) s) there e → ScrubbedFields s (summed r there) (take (3 + n) exit ++ e)
   unfolding partsBytes
-  onward there e rest = record {
+  completes there e rest = record {
     answer = λ left at ps found.
         let f = front left at ps found in
         let b = bounded (less left) (at + (3 + n)) (drop (3 + n) s) (f .behind) (f .found) in
@@ -154,7 +154,7 @@ module _ (s v : List ℕ) (n m : ℕ) (p : Part) (r : Tallies) (w : Walks s) (ro
     walks = walks-on;
     long = same-long n m s v room long is;
     behind = dropped n m s v room long is;
-    onward = onward;
+    completes = completes;
   }
 
 -- ---- a grids field, and a block

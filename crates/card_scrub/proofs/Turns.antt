@@ -14,11 +14,11 @@ use Rattle.card_scrub.specs.Steps.{summed, ScrubbedFields, Passed}
 use Rattle.card_scrub.proofs.Parts.{none-more, summed-again}
 
 -- what is left, scrubbed, makes the whole
-abbrev pub Onward : List ℕ → Tallies → ℕ → List ℕ → Type 0
-Onward whole t at rest = (there : Tallies) (e : List ℕ) → ScrubbedFields (drop at rest) there e → ScrubbedFields whole (summed t there) (take at rest ++ e)
+abbrev pub Completes : List ℕ → Tallies → ℕ → List ℕ → Type 0
+Completes whole t at rest = (there : Tallies) (e : List ℕ) → ScrubbedFields (drop at rest) there e → ScrubbedFields whole (summed t there) (take at rest ++ e)
 
 -- before the first field
-pub begun : (s : List ℕ) → Walks s → Onward s (talliesOf []) 0 s
+pub begun : (s : List ℕ) → Walks s → Completes s (talliesOf []) 0 s
 begun s w there e x = record {
   answer = λ left at ps found.
       let b = bounded left at s ps found in
@@ -28,7 +28,7 @@ begun s w there e x = record {
 
 -- a data field more, in the rest as it is lent from `at` on and given back as `exit`
 module _ (rest exit whole : List ℕ) (at size : ℕ) (t here : Tallies) (inside : at ≤ length rest)
-    (step : Passed (take (length rest - at) (drop at rest)) size here exit) (inv : Onward whole t at rest) where
+    (step : Passed (take (length rest - at) (drop at rest)) size here exit) (inv : Completes whole t at rest) where
   abbrev pub next : List ℕ
   next = take at rest ++ (exit ++ drop (length rest - at) (drop at rest))
 
@@ -50,10 +50,10 @@ module _ (rest exit whole : List ℕ) (at size : ℕ) (t here : Tallies) (inside
   pub turn-walks : Walks (drop (at + size) next)
   turn-walks = subst Walks (sym left) (lent .walks)
 
-  pub turned : Onward whole (summed t here) (at + size) next
+  pub turned : Completes whole (summed t here) (at + size) next
   turned there e x =
       let behind = subst (λ l. ScrubbedFields l there e) left x in
-      let all = inv (summed here there) (take size exit ++ e) (lent .onward there e behind) in
+      let all = inv (summed here there) (take size exit ++ e) (lent .completes there e behind) in
       let is : take at rest ++ (take size exit ++ e) ≡ take (at + size) next ++ e =
       sym (ap (λ l. take (at + size) l ++ e) (part-back at rest exit) ∙ ap (λ l. l ++ e) (take-past (take at rest) exit at size front)
       ∙ append-assoc (take at rest) (take size exit) e) in

@@ -34,7 +34,7 @@ pub record Passed (rest : List ℕ) (size : ℕ) (here : Tallies) (exit : List �
   pub walks : Walks (drop size rest)
   pub long : length exit ≡ length rest
   pub behind : drop size exit ≡ drop size rest
-  pub onward : (there : Tallies) (e : List ℕ) → ScrubbedFields (drop size rest) there e
+  pub completes : (there : Tallies) (e : List ℕ) → ScrubbedFields (drop size rest) there e
       → ScrubbedFields rest (summed here there) (take size exit ++ e)
 
 -- the field in front: a data field, or the end, and then nothing is left

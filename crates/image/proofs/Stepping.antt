@@ -1,5 +1,5 @@
 -- One step of the walk that checks an image: from a field to the next, with what is counted. Assumes nothing.
-use mathlib.Core.Path.{_≡_, sym, ap, ap₂, _∙_, subst}
+use mathlib.Core.Path.{_≡_, sym, ap, _∙_}
 use mathlib.Core.List.{List, []}
 use Prim.Native.Nat.{ℕ, zero, suc, _+_, _-_, _/_, _≤_, _<_}
 use native.Mathlib.Decide.{ℕ-discrete}
@@ -11,12 +11,12 @@ use borrow.Author.Tests.{eq-eqb, ne-eqb}
 use Rattle.refusals.specs.declared.Refusal.the-variants.{Broken}
 use Rattle.fields.specs.declared.Field.the-variants.{Title, Grids, Block, End, Fails}
 use Rattle.fields.specs.Fields.{fieldOf}
-use Rattle.fields.proofs.Fields.{known, grids-size}
+use Rattle.fields.proofs.Fields.{known}
 use Rattle.image.specs.declared.CheckAnswer.the-variants.{Done, Refused}
 use Rattle.image.specs.declared.Progress.{Progress}
-use Rattle.image.specs.declared.Onward.the-variants.{To, Over}
+use Rattle.image.specs.declared.Onward.the-variants.{Over}
 use Rattle.image.specs.Card.{sound, broken, walk}
-use Rattle.image.specs.Steps.{foundAfter, foundFrom, Inside, behindData, Roomy, Stepped}
+use Rattle.image.specs.Steps.{foundAfter, Inside, behindData, Roomy, Stepped}
 use Rattle.image.proofs.Walking.{full-grids, full-block, walk-end, walk-behind, walk-title, walk-fails, after-grids-step, after-block-step}
 
 module _ (image : List ℕ) (p : Progress) (i : Inside image p) where

@@ -8,14 +8,14 @@ use denote.Ref.{now}
 use borrow.Author.Needs.{needs}
 use Rattle.words.proofs.Lists.{part-back, length-part}
 use Rattle.card_read.specs.Steps.{ReadsGrids, ReadsFields, Passed, ReadFirst}
-use Rattle.card_read.proofs.Turns.{Onward, as-lent, lent-as, returned, returned-long, turn-reads, turned}
+use Rattle.card_read.proofs.Turns.{Completes, as-lent, lent-as, returned, returned-long, turn-reads, turned}
 use Rattle.card_read.proofs.read_fields.Statement.{statement}
 use Rattle.card_read.proofs.read_fields.Tie as tie
 
 abbrev Inv-loop : tie.InvT-loop
 Inv-loop rest numbers₀ flips₀ at₀ k₀ numbers flips at k =
     (at ≤ length rest) × (k ≤ at) × (k ≤ length numbers) × (k ≤ length flips) × (length numbers ≡ length numbers₀) × (length flips ≡ length flips₀)
-    × ReadsFields (drop at rest) (drop k numbers) (drop k flips) × Onward rest numbers₀ flips₀ at k numbers flips
+    × ReadsFields (drop at rest) (drop k numbers) (drop k flips) × Completes rest numbers₀ flips₀ at k numbers flips
 
 abbrev μ-loop : tie.MeasureT-loop
 μ-loop rest numbers₀ flips₀ at₀ k₀ numbers flips at k = length rest - at

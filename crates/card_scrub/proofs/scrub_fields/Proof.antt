@@ -12,14 +12,14 @@ use Rattle.image.specs.Steps.{Walks}
 use Rattle.card_scrub.specs.Calls.{talliesOf}
 use Rattle.card_scrub.specs.Steps.{summed, ScrubbedFields, Passed, ScrubbedFirst}
 use Rattle.card_scrub.proofs.Parts.{summed-none, none-none}
-use Rattle.card_scrub.proofs.Turns.{Onward, begun, next, turn-long, turn-inside, turn-walks, turned}
+use Rattle.card_scrub.proofs.Turns.{Completes, begun, next, turn-long, turn-inside, turn-walks, turned}
 use Rattle.card_scrub.proofs.scrub_fields.Statement.{statement}
 use Rattle.card_scrub.proofs.scrub_fields.Tie as tie
 
 abbrev Inv-loop : tie.InvT-loop
 Inv-loop rest₀ tallies₀ at₀ rest tallies at =
     (at ≤ length rest₀) × (length rest ≡ length rest₀) × (summed tallies (talliesOf []) ≡ tallies) × Walks (drop at rest)
-    × Onward rest₀ tallies at rest
+    × Completes rest₀ tallies at rest
 
 abbrev μ-loop : tie.MeasureT-loop
 μ-loop rest₀ tallies₀ at₀ rest tallies at = length rest₀ - at
@@ -32,7 +32,7 @@ loop-holds c =
       refl,
       ap (λ t. summed t (talliesOf [])) none ∙ none-none ∙ sym none,
       st .pre,
-      subst (λ t. Onward (now (st .args .rest)) t 0 (now (st .args .rest))) (sym none) (begun (now (st .args .rest)) (st .pre)),
+      subst (λ t. Completes (now (st .args .rest)) t 0 (now (st .args .rest))) (sym none) (begun (now (st .args .rest)) (st .pre)),
     )
 
 first-walks : tie.Need-scrub-first-requires Inv-loop μ-loop
@@ -77,7 +77,7 @@ loop-again c =
       turn-long (l .rest) (first .last .0) whole (l .at) size (l .tallies) here inside step (l .inv .4) ∙ l .inv .1,
       ap (λ t. summed t (talliesOf [])) is ∙ summed-none (l .tallies) here ∙ sym is,
       turn-walks (l .rest) (first .last .0) whole (l .at) size (l .tallies) here inside step (l .inv .4),
-      subst (λ t. Onward whole t (l .at + size) (next (l .rest) (first .last .0) whole (l .at) size (l .tallies) here inside step (l .inv .4))) (sym is)
+      subst (λ t. Completes whole t (l .at + size) (next (l .rest) (first .last .0) whole (l .at) size (l .tallies) here inside step (l .inv .4))) (sym is)
           (turned (l .rest) (first .last .0) whole (l .at) size (l .tallies) here inside step (l .inv .4)),
     )
 
