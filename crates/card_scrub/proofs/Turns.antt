@@ -41,17 +41,17 @@ module _ (rest exit whole : List ℕ) (at size : ℕ) (t here : Tallies) (inside
   left : drop (at + size) next ≡ drop size (drop at rest)
   left = ap (drop (at + size)) (part-back at rest exit) ∙ drop-past (take at rest) exit at size front ∙ lent .behind
 
-  pub turn-long : length next ≡ length rest
-  turn-long = omega (arith, ap length (part-back at rest exit), length-append (take at rest) exit, front, lent .long, length-drop at rest, inside)
+  next-long : length next ≡ length rest
+  next-long = omega (arith, ap length (part-back at rest exit), length-append (take at rest) exit, front, lent .long, length-drop at rest, inside)
 
-  pub turn-inside : at + size ≤ length rest
-  turn-inside = omega (arith, lent .room, length-drop at rest, inside)
+  next-inside : at + size ≤ length rest
+  next-inside = omega (arith, lent .room, length-drop at rest, inside)
 
-  pub turn-walks : Walks (drop (at + size) next)
-  turn-walks = subst Walks (sym left) (lent .walks)
+  next-walks : Walks (drop (at + size) next)
+  next-walks = subst Walks (sym left) (lent .walks)
 
-  pub turned : Completes whole (summed t here) (at + size) next
-  turned there e x =
+  next-completes : Completes whole (summed t here) (at + size) next
+  next-completes there e x =
       let behind = subst (λ l. ScrubbedFields l there e) left x in
       let all = inv (summed here there) (take size exit ++ e) (lent .completes there e behind) in
       let is : take at rest ++ (take size exit ++ e) ≡ take (at + size) next ++ e =
@@ -59,3 +59,6 @@ module _ (rest exit whole : List ℕ) (at size : ℕ) (t here : Tallies) (inside
       ∙ append-assoc (take at rest) (take size exit) e) in
       subst (λ (u : Tallies). ScrubbedFields whole u (take (at + size) next ++ e)) (summed-again t here there)
       (subst (λ l. ScrubbedFields whole (summed t (summed here there)) l) is all)
+
+  pub turned : (at + size ≤ length rest) × (length next ≡ length rest) × Walks (drop (at + size) next) × Completes whole (summed t here) (at + size) next
+  turned = (next-inside, next-long, next-walks, next-completes)

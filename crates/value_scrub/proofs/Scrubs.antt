@@ -141,12 +141,12 @@ module _ (value now : List ℕ) (at n m : ℕ) (t r u : Tally) (page : List ℕ)
       sym (append-assoc (take at now) page (drop m (drop at now)))
       ∙ ap (λ b. take at now ++ page ++ b) (drop-drop m at now ∙ ap (λ (k : ℕ). drop (at + k) now) is)
 
-  pub page-long : length next ≡ length value
-  page-long =
+  next-long : length next ≡ length value
+  next-long =
       omega (arith, ap length parted, length-append (take at now ++ page) (drop (at + 8 * n) now), front-long, length-drop (at + 8 * n) now, same, inside)
 
-  pub page-more : ScrubbedGrids (take (at + 8 * n) value) u (take (at + 8 * n) next)
-  page-more =
+  next-front : ScrubbedGrids (take (at + 8 * n) value) u (take (at + 8 * n) next)
+  next-front =
       let there : ScrubbedGrids (take (8 * n) (drop at value)) r page =
       subst (λ l. ScrubbedGrids (take (8 * n) l) r page) behind (subst (λ (k : ℕ). ScrubbedGrids (take k (drop at now)) r page) is here) in
       let l = length-take-le at value (omega (arith, inside)) in
@@ -161,10 +161,13 @@ module _ (value now : List ℕ) (at n m : ℕ) (t r u : Tally) (page : List ℕ)
         after = ap (take (at + 8 * n)) parted ∙ take-at (take at now ++ page) (drop (at + 8 * n) now) (at + 8 * n) front-long ∙ two .after;
       })
 
-  pub page-behind : drop (at + 8 * n) next ≡ drop (at + 8 * n) value
-  page-behind =
+  next-behind : drop (at + 8 * n) next ≡ drop (at + 8 * n) value
+  next-behind =
       ap (drop (at + 8 * n)) parted ∙ drop-at (take at now ++ page) (drop (at + 8 * n) now) (at + 8 * n) front-long
       ∙ sym (drop-drop (8 * n) at now) ∙ ap (drop (8 * n)) behind ∙ drop-drop (8 * n) at value
+
+  pub page-more : (length next ≡ length value) × ScrubbedGrids (take (at + 8 * n) value) u (take (at + 8 * n) next) × (drop (at + 8 * n) next ≡ drop (at + 8 * n) value)
+  page-more = (next-long, next-front, next-behind)
 
 -- ---- any value
 

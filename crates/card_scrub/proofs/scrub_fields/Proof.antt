@@ -12,7 +12,7 @@ use Rattle.image.specs.Steps.{Walks}
 use Rattle.card_scrub.specs.Calls.{talliesOf}
 use Rattle.card_scrub.specs.Steps.{summed, ScrubbedFields, Passed, ScrubbedFirst}
 use Rattle.card_scrub.proofs.Parts.{summed-none, none-none}
-use Rattle.card_scrub.proofs.Turns.{Completes, begun, next, turn-long, turn-inside, turn-walks, turned}
+use Rattle.card_scrub.proofs.Turns.{Completes, begun, next, turned}
 use Rattle.card_scrub.proofs.scrub_fields.Statement.{statement}
 use Rattle.card_scrub.proofs.scrub_fields.Tie as tie
 
@@ -72,13 +72,13 @@ loop-again c =
     let lent = take (length (l .rest) - l .at) (drop (l .at) (l .rest)) in
     let step : Passed lent size here (first .last .0) = subst (λ r. ScrubbedFirst lent r (first .last .0)) (x .size .given .1) (first .ensures) in
     let inside : l .at ≤ length (l .rest) = omega (arith, l .inv .0, l .inv .1) in
+    let turn = turned (l .rest) (first .last .0) whole (l .at) size (l .tallies) here inside step (l .inv .4) in
     let is = c .with-field .ensures in (
-      omega (arith, turn-inside (l .rest) (first .last .0) whole (l .at) size (l .tallies) here inside step (l .inv .4), l .inv .1),
-      turn-long (l .rest) (first .last .0) whole (l .at) size (l .tallies) here inside step (l .inv .4) ∙ l .inv .1,
+      omega (arith, turn .0, l .inv .1),
+      turn .1 ∙ l .inv .1,
       ap (λ t. summed t (talliesOf [])) is ∙ summed-none (l .tallies) here ∙ sym is,
-      turn-walks (l .rest) (first .last .0) whole (l .at) size (l .tallies) here inside step (l .inv .4),
-      subst (λ t. Completes whole t (l .at + size) (next (l .rest) (first .last .0) whole (l .at) size (l .tallies) here inside step (l .inv .4))) (sym is)
-          (turned (l .rest) (first .last .0) whole (l .at) size (l .tallies) here inside step (l .inv .4)),
+      turn .2,
+      subst (λ t. Completes whole t (l .at + size) (next (l .rest) (first .last .0) whole (l .at) size (l .tallies) here inside step (l .inv .4))) (sym is) (turn .3),
     )
 
 same-length : tie.Need-same-length Inv-loop μ-loop

@@ -8,7 +8,7 @@ use lib.Seq.{take-all, length-take-le}
 use denote.Ref.{now}
 use borrow.Author.Needs.{needs}
 use Rattle.value_scrub.specs.Steps.{ScrubbedGrids}
-use Rattle.value_scrub.proofs.Scrubs.{no-grids, page-long, page-more, page-behind}
+use Rattle.value_scrub.proofs.Scrubs.{no-grids, page-more}
 use Rattle.value_scrub.proofs.by_pages.Statement.{statement}
 use Rattle.value_scrub.proofs.by_pages.Tie as tie
 
@@ -65,13 +65,7 @@ loop-again c =
     let more =
     page-more value (l .value) (l .at) n m (l .tally) (page .result) (c .both .result) (page .last .0) (s .pre .0) inside (l .inv .1) (l .inv .2)
     (l .inv .4) (l .inv .5) is long (page .ensures) (c .both .ensures) in
-    let behind =
-    page-behind value (l .value) (l .at) n m (l .tally) (page .result) (c .both .result) (page .last .0) (s .pre .0) inside (l .inv .1) (l .inv .2)
-    (l .inv .4) (l .inv .5) is long (page .ensures) (c .both .ensures) in
-    let same =
-    page-long value (l .value) (l .at) n m (l .tally) (page .result) (c .both .result) (page .last .0) (s .pre .0) inside (l .inv .1) (l .inv .2)
-    (l .inv .4) (l .inv .5) is long (page .ensures) (c .both .ensures) in
-    (inside, omega (arith, l .inv .1), same, pages, more, behind)
+    (inside, omega (arith, l .inv .1), more .0, pages, more .1, more .2)
 
 returns : tie.Need-returns Inv-loop μ-loop
 returns c =
