@@ -65,6 +65,6 @@ isMore (One p) = false
 isMore (Two p q) = false
 isMore More = true
 
--- `block_flips::nearest`: the one flip or the two that explain s, and no more than two where none do.
+-- `block_flips::nearest`: the one flip or the two that explain s, or that no one flip and no two do.
 pub record Nearest (s : Checks) (r : Flips) : Type 0 where
   pub answer : Explains s (Unexplained s) r
