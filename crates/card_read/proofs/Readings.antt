@@ -18,7 +18,7 @@ use Rattle.image.specs.Card.{Part, Card, sound, mostBytes, gridsIn, gridsAt, ca
 use Rattle.image.proofs.Walks.{Front}
 use Rattle.image.proofs.Checking.{checked-found}
 use Rattle.value_read.specs.Shown.{dataOfGrids, flipsOfGrids}
-use Rattle.value_read.specs.Steps.{gridsOf}
+use Rattle.values.specs.Steps.{gridsOf}
 use Rattle.card_read.specs.declared.ReadAnswer.{ReadAnswer}
 use Rattle.card_read.specs.declared.ReadAnswer.the-variants.{Done, Refused}
 use Rattle.card_read.specs.Calls.{roomFor, readAs, Read}

@@ -2,7 +2,6 @@
 use mathlib.Core.Path.{_≡_, refl, sym, ap, ap₂, _∙_}
 use mathlib.Core.List.{List, [], _∷_, _++_, map, append-assoc, append-nil}
 use Prim.Native.Nat.{ℕ, _+_, _-_, _*_, _/_, _%_, _^_, _≤_}
-use native.Mathlib.Nat.{mod-eq-of-lt}
 use native.Mathlib.Omega.{arith}
 use lib.Dec.{lit<}
 use lib.ListN.{length, take, drop, length-append, length-map, length-drop, drop-of-length-le}
@@ -12,7 +11,7 @@ use Rattle.words.specs.Bytes.{wordsIn, bytesOf}
 use Rattle.words.proofs.Bytes.{length-words}
 use Rattle.codes.specs.Verdict.{scrubbed}
 use Rattle.codes.specs.Tally.{sumBy, Tally as Counted, tallyOf}
-use Rattle.codes.specs.Steps.{plus, Small}
+use Rattle.codes.specs.Steps.{plus}
 use Rattle.codes.proofs.Tally.{tally-append, small-sum}
 use Rattle.grid_code.specs.Code.{gridCode}
 use Rattle.grid_code.proofs.Promises as grid
@@ -29,9 +28,11 @@ use Rattle.image.proofs.Shape.{split}
 use Rattle.image.specs.Steps.{Walks}
 use Rattle.image.proofs.Walks.{less, Front, grids-front, block-front, bounded}
 use Rattle.image.proofs.Checking.{Begins}
+use Rattle.values.specs.Steps.{gridsOf}
 use Rattle.value_scrub.specs.declared.Blocks.{Blocks}
 use Rattle.value_scrub.specs.Tally.{ofBlocks, tallyIn as blocksTally, blockTally}
 use Rattle.value_scrub.specs.Steps.{wrapped, NoBlocks, ScrubbedGrids, ScrubbedBlock}
+use Rattle.value_scrub.proofs.Scrubs.{whole-sum}
 use Rattle.card_scrub.specs.declared.Tallies.{Tallies}
 use Rattle.card_scrub.specs.Calls.{scrubbedPart, scrubbedCard, talliesOf}
 use Rattle.card_scrub.specs.Steps.{summed, ScrubbedFields, Passed}
@@ -73,16 +74,6 @@ countedIn (block w) = record { grids = gridTally []; blocks = blockTally (w ∷ 
 abbrev Few : Part → Type 0
 Few (grids ws) = length ws ≤ 4096
 Few (block w) = Unit {0}
-
--- where there is room for each sum, nothing wraps
-whole-sum : (t : Counted) → Small t → wrapped t ≡ t
-whole-sum t room = λ i. record {
-  words = mod-eq-of-lt (room .words) i;
-  clean = mod-eq-of-lt (room .clean) i;
-  mended = mod-eq-of-lt (room .mended) i;
-  lost = mod-eq-of-lt (room .lost) i;
-  flips = mod-eq-of-lt (room .flips) i;
-}
 
 sum-of-grids : (ws vs : List ℕ) → length ws ≤ 4096 → length vs ≤ 4096
     → wrapped (plus (tallyOf gridCode ws) (tallyOf gridCode vs)) ≡ tallyOf gridCode (ws ++ vs)
@@ -164,7 +155,7 @@ module _ (s v : List ℕ) (n m : ℕ) (r : Tally) (none : Blocks) (w : Walks s) 
   ws : List ℕ
   ws = wordsIn 8 (n / 8) (value s)
 
-  words-are : wordsIn 8 (length (take m (drop 3 s)) / 8) (take m (drop 3 s)) ≡ ws
+  words-are : gridsOf (take m (drop 3 s)) ≡ ws
   unfolding ws
   words-are =
       let st = known s f .0 in

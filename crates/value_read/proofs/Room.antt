@@ -6,8 +6,9 @@ use Prim.Native.Nat.{ℕ, _/_, _≤_, _<_}
 use lib.ListN.{length}
 use borrow.Author.Tests.{le-leb, lt-leb}
 use Rattle.words.specs.Bytes.{laid}
+use Rattle.values.specs.Steps.{gridsOf}
 use Rattle.value_read.specs.Shown.{dataOfGrids, flipsOfGrids}
-use Rattle.value_read.specs.Steps.{gridsOf, roomForGrids, ReadValue}
+use Rattle.value_read.specs.Steps.{roomForGrids, ReadValue}
 
 module _ (value numbers flips : List ℕ) where
   no-room : roomForGrids value numbers flips ≡ false → ReadValue value numbers flips numbers flips

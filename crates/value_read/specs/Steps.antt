@@ -6,14 +6,11 @@ use Prim.Native.Nat.{ℕ, _/_}
 use lib.Dec.{leb}
 use lib.ListN.{length}
 use Rattle.words.specs.Word.{choose}
-use Rattle.words.specs.Bytes.{wordsIn, laid}
+use Rattle.words.specs.Bytes.{laid}
+use Rattle.values.specs.Steps.{gridsOf}
 use Rattle.value_read.specs.Shown.{dataOfGrids, flipsOfGrids}
 
--- the grids of a value
-abbrev pub gridsOf : List ℕ → List ℕ
-gridsOf value = wordsIn 8 (length value / 8) value
-
--- two slices have room for them
+-- two slices have room for the grids of a value
 abbrev pub roomForGrids : List ℕ → List ℕ → List ℕ → Bool
 roomForGrids value numbers flips = leb (length value / 8) (length numbers) && leb (length value / 8) (length flips)
 

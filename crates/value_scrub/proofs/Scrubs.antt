@@ -16,12 +16,14 @@ use Rattle.words.proofs.Digits.{length-digits, digits-joined}
 use Rattle.words.proofs.Bytes.{length-words, words-two, bytes-append, bytes-words, words-below}
 use Rattle.refusals.specs.declared.Refusal.the-variants.{Length}
 use Rattle.codes.specs.Verdict.{Verdict, clean, mended, lost, verdict, scrubbed}
-use Rattle.codes.specs.Tally.{isMended, sumBy, tallyOfOne}
+use Rattle.codes.specs.Tally.{isMended, sumBy, tallyOfOne, Tally as Counted}
+use Rattle.codes.specs.Steps.{plus, Small}
 use Rattle.codes.proofs.Tally.{unmended, tally-append, small-sum, tallies}
 use Rattle.grid_code.specs.Code.{gridCode}
 use Rattle.grid_code.proofs.Promises as grid
 use Rattle.page.specs.declared.Tally.{Tally}
 use Rattle.page.specs.declared.PageAnswer.the-variants.{Done as PageDone}
+use Rattle.page.specs.Answer.{tallyIn}
 use Rattle.page.specs.Calls.{ofGrids, gridTally, NoGrids, Scrubbed}
 use Rattle.page.proofs.Promises.{was-done}
 use Rattle.block_code.specs.Code.{blockCode}
@@ -32,11 +34,11 @@ use Rattle.block.specs.declared.BlockVerdict.the-variants.{Clean, Mended}
 use Rattle.block.specs.declared.BlockAnswer.{BlockAnswer}
 use Rattle.block.specs.declared.BlockAnswer.the-variants.{Done, Refused}
 use Rattle.fields.specs.Fields.{isGrids}
-use Rattle.values.specs.Steps.{Put}
+use Rattle.values.specs.Steps.{gridsOf, Put}
 use Rattle.values.proofs.Fits.{put-there}
 use Rattle.value_scrub.specs.declared.Blocks.{Blocks}
 use Rattle.value_scrub.specs.Tally.{ofBlocks, blockTally}
-use Rattle.value_scrub.specs.Steps.{NoBlocks, bothGrids, Added, RoomyGrids, ScrubbedGrids, ScrubbedBlock, AnyGrids, AnyBlock}
+use Rattle.value_scrub.specs.Steps.{NoBlocks, wrapped, bothGrids, Added, RoomyGrids, ScrubbedGrids, ScrubbedBlock, AnyGrids, AnyBlock}
 
 -- ---- a scrub that mends nothing changes nothing
 
@@ -53,10 +55,10 @@ module _ (value page after : List ℕ) (n : ℕ) (t : Tally) (fits : length valu
   size : length value / 8 ≡ n
   size = omega (arith, fits)
 
-  words : page ≡ wordsIn 8 (length value / 8) value
+  words : page ≡ gridsOf value
   words = taken ∙ ap (λ (n : ℕ). wordsIn 8 n value) (sym size)
 
-  tally : t ≡ gridTally (wordsIn 8 (length value / 8) value)
+  tally : t ≡ gridTally (gridsOf value)
   tally = was-done page after t done .1 ∙ ap gridTally words
 
   still : length value ≡ 8 * length after
@@ -71,7 +73,7 @@ module _ (value page after : List ℕ) (n : ℕ) (t : Tally) (fits : length valu
 
   pub page-kept : t .mended ≡ 0 → ScrubbedGrids value t value
   page-kept z =
-      let ws = wordsIn 8 (length value / 8) value in
+      let ws = gridsOf value in
       let none : sumBy gridCode isMended ws ≡ 0 = sym (ap (λ t. t .mended) tally) ∙ z in
       record {
         answer = tally;
@@ -90,7 +92,7 @@ grids-two a b a′ b′ r s p q x y =
     let m : ℕ = length a / 8 in
     let n : ℕ = length b / 8 in
     let e : length (a ++ b) / 8 ≡ m + n = omega (arith, length-append a b) in
-    let ws : wordsIn 8 (length (a ++ b) / 8) (a ++ b) ≡ wordsIn 8 m a ++ wordsIn 8 n b =
+    let ws : gridsOf (a ++ b) ≡ wordsIn 8 m a ++ wordsIn 8 n b =
     ap (λ (j : ℕ). wordsIn 8 j (a ++ b)) e ∙ words-two 8 m n a b (omega (arith, p)) in
     record {
       answer = ap₂ bothGrids (x .answer) (y .answer) ∙ sym (ap gridTally ws ∙ tally-two (wordsIn 8 m a) (wordsIn 8 n b));
@@ -104,26 +106,27 @@ grids-two a b a′ b′ r s p q x y =
 pub grids-roomy : (a b a′ b′ : List ℕ) (r s : Tally) → length a ≤ 32768 → length b ≤ 32768 → ScrubbedGrids a r a′ → ScrubbedGrids b s b′
     → RoomyGrids r s
 grids-roomy a b a′ b′ r s l m x y =
-    let few = small-sum gridCode (grid.promised .verdicts) 4096 (wordsIn 8 (length a / 8) a) (wordsIn 8 (length b / 8) b) (omega (arith, length-words 8 (length a / 8) a))
+    let few = small-sum gridCode (grid.promised .verdicts) 4096 (gridsOf a) (gridsOf b) (omega (arith, length-words 8 (length a / 8) a))
     (omega (arith, length-words 8 (length b / 8) b)) (lit< tt) (lit< tt) in
-    subst (λ r. RoomyGrids r s) (sym (x .answer)) (subst (RoomyGrids (gridTally (wordsIn 8 (length a / 8) a))) (sym (y .answer)) few)
+    subst (λ r. RoomyGrids r s) (sym (x .answer)) (subst (RoomyGrids (gridTally (gridsOf a))) (sym (y .answer)) few)
 
 -- of no grids
 pub no-grids : (r : Tally) → NoGrids r → ScrubbedGrids [] r []
 unfolding sumBy wordsIn bytesOf
 no-grids r h = record { answer = h .answer; after = refl }
 
--- where there is room for each sum, nothing wraps
-pub summed : (a b r : Tally) → RoomyGrids a b → Added a b r → r ≡ bothGrids a b
-summed a b r room h =
-    h .answer
-    ∙ λ i. record {
-      grids = mod-eq-of-lt (room .words) i;
-      clean = mod-eq-of-lt (room .clean) i;
-      mended = mod-eq-of-lt (room .mended) i;
-      lost = mod-eq-of-lt (room .lost) i;
-      flips = mod-eq-of-lt (room .flips) i;
-    }
+-- where there is room for each number, nothing wraps
+pub whole-sum : (t : Counted) → Small t → wrapped t ≡ t
+whole-sum t room = λ i. record {
+  words = mod-eq-of-lt (room .words) i;
+  clean = mod-eq-of-lt (room .clean) i;
+  mended = mod-eq-of-lt (room .mended) i;
+  lost = mod-eq-of-lt (room .lost) i;
+  flips = mod-eq-of-lt (room .flips) i;
+}
+
+added-up : (a b r : Tally) → RoomyGrids a b → Added a b r → r ≡ bothGrids a b
+added-up a b r room h = h .answer ∙ ap ofGrids (whole-sum (plus (tallyIn a) (tallyIn b)) room)
 
 -- One page more. Of the value as it was, the bytes before `at` are scrubbed, and those from there on are as they were.
 module _ (value now : List ℕ) (at n m : ℕ) (t r u : Tally) (page : List ℕ) (few : length value ≤ 4096) (inside : at + 8 * n ≤ length value)
@@ -157,7 +160,7 @@ module _ (value now : List ℕ) (at n m : ℕ) (t r u : Tally) (page : List ℕ)
       grids-two (take at value) (take (8 * n) (drop at value)) (take at now) page t r (omega (arith, l, whole)) (omega (arith, m)) front there in
       subst (λ w. ScrubbedGrids w u (take (at + 8 * n) next)) (sym (take-add at (8 * n) value))
       (record {
-        answer = summed t r u room sum ∙ two .answer;
+        answer = added-up t r u room sum ∙ two .answer;
         after = ap (take (at + 8 * n)) parted ∙ take-at (take at now ++ page) (drop (at + 8 * n) now) (at + 8 * n) front-long ∙ two .after;
       })
 

@@ -1,7 +1,7 @@
 -- What the scrub of a value computes, so that the contracts can say it. No promise to a caller cites this file. Assumes nothing.
 use mathlib.Core.Path.{_≡_}
 use mathlib.Core.List.{List, [], _∷_, map}
-use Prim.Native.Nat.{ℕ, _/_, _%_, _^_}
+use Prim.Native.Nat.{ℕ, _%_, _^_}
 use lib.Dec.{eqb}
 use lib.ListN.{length}
 use Rattle.words.specs.Word.{choose}
@@ -16,6 +16,7 @@ use Rattle.page.specs.Answer.{tallyIn}
 use Rattle.page.specs.Calls.{ofGrids, gridTally}
 use Rattle.block_code.specs.Code.{blockCode}
 use Rattle.fields.specs.Fields.{blockBytes, isGrids}
+use Rattle.values.specs.Steps.{gridsOf}
 use Rattle.value_scrub.specs.declared.Blocks.{Blocks}
 use Rattle.value_scrub.specs.Tally.{blockTally}
 
@@ -53,8 +54,8 @@ abbrev pub pageGrids : ℕ
 pageGrids = 64
 
 pub record ScrubbedGrids (value : List ℕ) (r : Tally) (exit : List ℕ) : Type 0 where
-  pub answer : r ≡ gridTally (wordsIn 8 (length value / 8) value)
-  pub after : exit ≡ bytesOf 8 (map (scrubbed gridCode) (wordsIn 8 (length value / 8) value))
+  pub answer : r ≡ gridTally (gridsOf value)
+  pub after : exit ≡ bytesOf 8 (map (scrubbed gridCode) (gridsOf value))
 
 pub record ScrubbedBlock (value : List ℕ) (r : Blocks) (exit : List ℕ) : Type 0 where
   pub answer : r ≡ blockTally (joined 16 (wordsIn 2 38 value) ∷ [])
@@ -62,8 +63,8 @@ pub record ScrubbedBlock (value : List ℕ) (r : Blocks) (exit : List ℕ) : Typ
 
 -- `value_scrub::grids`: a value that can be that of a grids field, scrubbed and counted; any other stays as it is.
 pub record AnyGrids (value : List ℕ) (r : Tally) (exit : List ℕ) : Type 0 where
-  pub answer : r ≡ choose (isGrids (length value)) (gridTally (wordsIn 8 (length value / 8) value)) (gridTally [])
-  pub after : exit ≡ choose (isGrids (length value)) (bytesOf 8 (map (scrubbed gridCode) (wordsIn 8 (length value / 8) value))) value
+  pub answer : r ≡ choose (isGrids (length value)) (gridTally (gridsOf value)) (gridTally [])
+  pub after : exit ≡ choose (isGrids (length value)) (bytesOf 8 (map (scrubbed gridCode) (gridsOf value))) value
 
 -- `value_scrub::block`: the same for the value of a block field.
 pub record AnyBlock (value : List ℕ) (r : Blocks) (exit : List ℕ) : Type 0 where

@@ -2,12 +2,16 @@
 -- writes. No promise to a caller cites this file. Assumes nothing.
 use mathlib.Core.Path.{_≡_}
 use mathlib.Core.List.{List}
-use Prim.Native.Nat.{ℕ, _*_}
+use Prim.Native.Nat.{ℕ, _*_, _/_}
 use lib.Dec.{leb}
 use lib.ListN.{length, take}
 use Rattle.words.specs.Word.{choose}
 use Rattle.words.specs.Digits.{digits}
 use Rattle.words.specs.Bytes.{wordsIn, bytesOf, laid}
+
+-- the grids of a value, as 64-bit numbers
+abbrev pub gridsOf : List ℕ → List ℕ
+gridsOf value = wordsIn 8 (length value / 8) value
 
 -- `values::grid`: the rows that stand in the first eight bytes, and those of the grid 0 where there are fewer.
 pub record FirstRows (bytes rows : List ℕ) : Type 0 where
