@@ -1,5 +1,6 @@
 pub mod Verdict
 pub mod Promises
+pub mod Last
 pub mod Tally
 pub mod Product
 pub mod Trials

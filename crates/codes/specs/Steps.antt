@@ -1,5 +1,8 @@
--- What the steps of a scrub ask of tallies, so that their contracts can say it. No promise to a caller cites this file. Assumes nothing.
-use Prim.Native.Nat.{_+_, _^_, _<_}
+-- What the steps of a scrub ask of tallies and of patterns, so that their contracts can say it. No promise to a caller cites this file.
+-- Assumes nothing.
+use Prim.Native.Nat.{ℕ, _+_, _^_, _<_}
+use lib.Dec.{eqb}
+use Rattle.words.specs.Word.{choose}
 use Rattle.codes.specs.Tally.{Tally}
 
 -- of two parts
@@ -19,3 +22,7 @@ pub record Small (t : Tally) : Type 0 where
   pub mended : t .mended < 2 ^ 32
   pub lost : t .lost < 2 ^ 32
   pub flips : t .flips < 2 ^ 32
+
+-- of the patterns that two parts pass on, the one that both do: the second, unless nothing was mended there. A mended word's is never zero.
+abbrev pub later : ℕ → ℕ → ℕ
+later a b = choose (eqb b 0) a b

@@ -10,13 +10,13 @@ use lib.ListN.{length, getD, length-map}
 use borrow.Author.Tests.{le-leb, lt-leb}
 use Rattle.words.specs.Word.{choose}
 use Rattle.words.proofs.Lists.{map-getD, map-twice}
-use Rattle.codes.specs.Verdict.{clean, verdict, repaired, scrubbed}
+use Rattle.codes.specs.Verdict.{clean, flipsOf, verdict, repaired, scrubbed}
 use Rattle.refusals.specs.declared.Refusal.the-variants.{Length}
 use Rattle.refusals.specs.Reply.{gives}
 use Rattle.codes.specs.Tally as codes
-use Rattle.codes.specs.Tally.{isMended, sumBy, Tally, AddsUp, Again, TallyPromises}
+use Rattle.codes.specs.Tally.{sumBy, Tally, AddsUp, Again, TallyPromises}
 use Rattle.refusals.proofs.Promises.{nothing-given}
-use Rattle.codes.proofs.Tally.{unmended, tallies}
+use Rattle.codes.proofs.Tally.{unflipped, tallies}
 use Rattle.grid_code.specs.Code.{gridCode}
 use Rattle.grid_code.proofs.Promises as grid
 use Rattle.page.specs.declared.Tally as grids
@@ -66,7 +66,7 @@ laws = tallies gridCode (grid.promised .verdicts)
 -- ---- a clean grid stays as it is
 
 clean-kept : (w d : ℕ) → verdict gridCode w ≡ clean d → scrubbed gridCode w ≡ w
-clean-kept w d e = unmended gridCode (grid.promised .verdicts) w (ap isMended e)
+clean-kept w d e = unflipped gridCode (grid.promised .verdicts) w (ap flipsOf e)
 
 length-kept : (page exit : List ℕ) (r : PageAnswer) → Scrubbed page r exit → length exit ≡ length page
 length-kept page exit r s = go (decLe (length page) 512)

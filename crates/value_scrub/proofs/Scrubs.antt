@@ -15,10 +15,10 @@ use Rattle.words.specs.Bytes.{wordsIn, bytesOf}
 use Rattle.words.proofs.Digits.{length-digits, digits-joined}
 use Rattle.words.proofs.Bytes.{length-words, words-two, bytes-append, bytes-words, words-below}
 use Rattle.refusals.specs.declared.Refusal.the-variants.{Length}
-use Rattle.codes.specs.Verdict.{Verdict, clean, mended, lost, verdict, scrubbed}
-use Rattle.codes.specs.Tally.{isMended, sumBy, tallyOfOne, Tally as Counted}
+use Rattle.codes.specs.Verdict.{Verdict, clean, mended, lost, flipsOf, verdict, scrubbed}
+use Rattle.codes.specs.Tally.{sumBy, tallyOfOne, Tally as Counted}
 use Rattle.codes.specs.Steps.{plus, Small}
-use Rattle.codes.proofs.Tally.{unmended, tally-append, small-sum, tallies}
+use Rattle.codes.proofs.Tally.{unflipped, none-flipped, tally-append, small-sum, tallies}
 use Rattle.grid_code.specs.Code.{gridCode}
 use Rattle.grid_code.proofs.Promises as grid
 use Rattle.page.specs.declared.Tally.{Tally}
@@ -39,14 +39,6 @@ use Rattle.values.proofs.Fits.{put-there}
 use Rattle.value_scrub.specs.declared.Blocks.{Blocks}
 use Rattle.value_scrub.specs.Tally.{ofBlocks, blockTally}
 use Rattle.value_scrub.specs.Steps.{NoBlocks, wrapped, bothGrids, Added, RoomyGrids, ScrubbedGrids, ScrubbedBlock, AnyGrids, AnyBlock}
-
--- ---- a scrub that mends nothing changes nothing
-
-none-mended : (ws : List ℕ) → sumBy gridCode isMended ws ≡ 0 → map (scrubbed gridCode) ws ≡ ws
-unfolding sumBy
-none-mended [] e = refl
-none-mended (w ∷ ws) e =
-    ap₂ {C = List ℕ} (λ (x : ℕ) (xs : List ℕ). x ∷ xs) (unmended gridCode (grid.promised .verdicts) w (omega (arith, e))) (none-mended ws (omega (arith, e)))
 
 -- ---- by way of a page
 
@@ -71,13 +63,13 @@ module _ (value page after : List ℕ) (n : ℕ) (t : Tally) (fits : length valu
     after = put-there 8 value after exit still e ∙ ap (bytesOf 8) (was-done page after t done .2 ∙ ap (map (scrubbed gridCode)) words);
   }
 
-  pub page-kept : t .mended ≡ 0 → ScrubbedGrids value t value
+  pub page-kept : t .flips ≡ 0 → ScrubbedGrids value t value
   page-kept z =
       let ws = gridsOf value in
-      let none : sumBy gridCode isMended ws ≡ 0 = sym (ap (λ t. t .mended) tally) ∙ z in
+      let none : sumBy gridCode flipsOf ws ≡ 0 = sym (ap (λ t. t .flips) tally) ∙ z in
       record {
         answer = tally;
-        after = sym (ap (bytesOf 8) (none-mended ws none) ∙ bytes-words 8 (length value / 8) value (omega (arith, fits)) bytes);
+        after = sym (ap (bytesOf 8) (none-flipped gridCode (grid.promised .verdicts) ws none) ∙ bytes-words 8 (length value / 8) value (omega (arith, fits)) bytes);
       }
 
 -- ---- two parts of a value
@@ -243,12 +235,12 @@ module _ (value words after : List ℕ) (r : BlockAnswer) (fits : length value �
         ∙ ap (bytesOf 2) is-after;
   }
 
-  pub words-kept : ofAnswer r .mended ≡ 0 → ScrubbedBlock value (ofAnswer r) value
+  pub words-kept : ofAnswer r .flips ≡ 0 → ScrubbedBlock value (ofAnswer r) value
   unfolding w
   words-kept z = record {
     answer = answer;
     after =
-        sym (ap (λ (x : ℕ). bytesOf 2 (digits 16 38 x)) (unmended blockCode (blocks.promised .verdicts) w (sym (ap (λ t. t .mended) (ap ofAnswer told ∙ answered (verdict blockCode w))) ∙ z))
+        sym (ap (λ (x : ℕ). bytesOf 2 (digits 16 38 x)) (unflipped blockCode (blocks.promised .verdicts) w (sym (ap (λ t. t .flips) (ap ofAnswer told ∙ answered (verdict blockCode w))) ∙ z))
         ∙ ap (bytesOf 2) (digits-joined 16 38 (wordsIn 2 38 value) (length-words 2 38 value) (words-below 2 38 value (omega (arith, fits)) bytes))
         ∙ bytes-words 2 38 value fits bytes);
   }

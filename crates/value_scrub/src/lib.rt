@@ -53,7 +53,7 @@ pub fn both(here: Tally, there: Tally) -> Tally
     }
 }
 
-// Grids scrubbed by way of a page of their number. Where none was mended, nothing is written.
+// Grids scrubbed by way of a page of their number. Where there are no flips, nothing is written.
 fn by_page(value: &mut [u8], page: &mut [u64]) -> Tally
     requires { ⌜ (length (now value) ≡ 8 * length (now page)) × (length (now page) ≤ mostGrids) ⌝ }
     ensures { λ r. ⌜ ScrubbedGrids (now (value .entry)) r (now (value .exit)) ⌝ }
@@ -61,7 +61,7 @@ fn by_page(value: &mut [u8], page: &mut [u64]) -> Tally
     values::grids(value, page);
     match page::scrub(page) {
         PageAnswer::Done(tally) => {
-            if tally.mended > 0 {
+            if tally.flips > 0 {
                 values::put_grids(value, page);
             }
             tally

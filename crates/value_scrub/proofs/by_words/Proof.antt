@@ -25,7 +25,7 @@ returns c =
     taken-there 2 (now (s .args .value)) (now (s .args .words)) (words .last .1 .0) (omega (arith, s .pre)) (words .ensures) ∙ ap (λ (n : ℕ). wordsIn 2 n (now (s .args .value))) (s .pre .1) in
     subst (λ (r : Blocks). ScrubbedBlock (now (s .args .value)) r (now (s .args .value))) is
     (words-kept (now (s .args .value)) (words .last .1 .0) (scrub .last .0) (scrub .result) (s .pre .0) (λ i. m .before .before .before .before .before .before .before .before .before .before .before .slice-known .given i .fits) taken
-    (scrub .ensures) (ap (λ (b : Blocks). b .mended) is))
+    (scrub .ensures) (ap (λ (b : Blocks). b .flips) is))
 
 returns-2 : tie.Need-returns-2
 returns-2 c =
@@ -52,7 +52,7 @@ returns-3 c =
     taken-there 2 (now (s .args .value)) (now (s .args .words)) (words .last .1 .0) (omega (arith, s .pre)) (words .ensures) ∙ ap (λ (n : ℕ). wordsIn 2 n (now (s .args .value))) (s .pre .1) in
     subst (λ (r : Blocks). ScrubbedBlock (now (s .args .value)) r (now (s .args .value))) is
     (words-kept (now (s .args .value)) (words .last .1 .0) (scrub .last .0) (scrub .result) (s .pre .0) (λ i. m .before .before .before .before .before .before .before .before .before .before .before .slice-known .given i .fits) taken
-    (scrub .ensures) (ap (λ (b : Blocks). b .mended) is))
+    (scrub .ensures) (ap (λ (b : Blocks). b .flips) is))
 
 pub by-words-spec : {M : Type 1} → statement M
 by-words-spec =

@@ -1,0 +1,107 @@
+-- The pattern that a scrub of many words passes on: that of the last mended one, also where the words come in two parts. Assumes nothing.
+use mathlib.Core.Path.{_≡_, refl, sym, ap, _∙_}
+use mathlib.Core.Logic.{_≢_, _⊎_, inl, inr}
+use mathlib.Core.List.{List, [], _∷_, _++_}
+use Prim.Native.Nat.{ℕ, zero, suc, _+_, _<_}
+use native.Mathlib.Decide.{ℕ-discrete}
+use native.Mathlib.Numerals.{add-one}
+use native.Mathlib.Omega.{arith}
+use lib.ListN.{length, getD, take}
+use lib.Seq.{take-suc}
+use borrow.Author.Tests.{eq-eqb, ne-eqb}
+use Rattle.codes.specs.Verdict.{Code, Verdict, clean, mended, lost, verdict, patternOf}
+use Rattle.codes.specs.Promises.{Promises}
+use Rattle.codes.specs.Tally.{isMended, sumBy, passedOn, lastFrom, lastPattern}
+use Rattle.codes.specs.Steps.{later}
+
+-- ---- one word
+
+passed-none : (v : Verdict) (p before : ℕ) → isMended v ≡ 0 → passedOn v p before ≡ before
+passed-none (clean d) p before z = refl
+passed-none (mended d n) p before z = absurd (omega (arith, z))
+passed-none lost p before z = refl
+
+-- ---- of a list
+
+module _ (C : Code) where
+  none-mended : (ws : List ℕ) → ((j : ℕ) → j < length ws → isMended (verdict C (getD ws j 0)) ≡ 0) → sumBy C isMended ws ≡ 0
+  unfolding sumBy
+  none-mended [] h = refl
+  none-mended (w ∷ ws) h = omega (arith, h 0 (omega arith), none-mended ws (λ j l. h (suc j) (omega arith)))
+
+  -- none is mended: what came before is passed on
+  none-passed : (before : ℕ) (ws : List ℕ) → sumBy C isMended ws ≡ 0 → lastFrom C before ws ≡ before
+  unfolding sumBy lastFrom
+  none-passed before [] e = refl
+  none-passed before (w ∷ ws) e =
+      ap (λ (p : ℕ). lastFrom C p ws) (passed-none (verdict C w) (patternOf C w) before (omega (arith, e))) ∙ none-passed before ws (omega (arith, e))
+
+  pub no-last : (ws : List ℕ) → sumBy C isMended ws ≡ 0 → lastPattern C ws ≡ 0
+  no-last ws e = none-passed 0 ws e
+
+  -- the last mended one, whatever came before
+  last-from : (before : ℕ) (ws : List ℕ) (i d n : ℕ) → i < length ws → verdict C (getD ws i 0) ≡ mended d n
+      → ((j : ℕ) → i < j → j < length ws → isMended (verdict C (getD ws j 0)) ≡ 0) → lastFrom C before ws ≡ patternOf C (getD ws i 0)
+  unfolding lastFrom
+  last-from before [] i d n l e h = absurd (omega arith)
+  last-from before (w ∷ ws) zero d n l e h =
+      ap (λ v. lastFrom C (passedOn v (patternOf C w) before) ws) e
+      ∙ none-passed (patternOf C w) ws (none-mended ws (λ j l. h (suc j) (omega arith) (omega arith)))
+  last-from before (w ∷ ws) (suc i) d n l e h =
+      last-from (passedOn (verdict C w) (patternOf C w) before) ws i d n (omega arith) e (λ j k l. h (suc j) (omega arith) (omega arith))
+
+  pub last : (ws : List ℕ) (i d n : ℕ) → i < length ws → verdict C (getD ws i 0) ≡ mended d n
+      → ((j : ℕ) → i < j → j < length ws → isMended (verdict C (getD ws j 0)) ≡ 0) → lastPattern C ws ≡ patternOf C (getD ws i 0)
+  last ws = last-from 0 ws
+
+  -- two parts
+  last-append : (before : ℕ) (xs ys : List ℕ) → lastFrom C before (xs ++ ys) ≡ lastFrom C (lastFrom C before xs) ys
+  unfolding lastFrom
+  last-append before [] ys = refl
+  last-append before (x ∷ xs) ys = last-append (passedOn (verdict C x) (patternOf C x) before) xs ys
+
+  -- one word more
+  pub last-step : (ws : List ℕ) (i : ℕ) → i < length ws
+      → lastPattern C (take (i + 1) ws) ≡ passedOn (verdict C (getD ws i 0)) (patternOf C (getD ws i 0)) (lastPattern C (take i ws))
+  unfolding lastFrom
+  last-step ws i h = rw (add-one, take-suc ws i 0 h, last-append)
+
+  module _ (P : Promises C) where
+    -- what came before is passed on, or a pattern that is not zero
+    Passes : List ℕ → Type 0
+    Passes ws = ((before : ℕ) → lastFrom C before ws ≡ before) ⊎ ((p : ℕ) × (p ≢ 0) × ((before : ℕ) → lastFrom C before ws ≡ p))
+
+    passes : (ws : List ℕ) → Passes ws
+    unfolding Passes lastFrom
+    passes [] = inl (λ before. refl)
+    passes (w ∷ ws) = go (passes ws)
+      where
+        kind : (v : Verdict) → verdict C w ≡ v → ((before : ℕ) → lastFrom C before ws ≡ before) → Passes (w ∷ ws)
+        kind (clean d) e h = inl (λ before. ap (λ v. lastFrom C (passedOn v (patternOf C w) before) ws) e ∙ h before)
+        kind (mended d n) e h =
+            inr (patternOf C w, P .pattern .some-mended w d n e, λ before. ap (λ v. lastFrom C (passedOn v (patternOf C w) before) ws) e ∙ h (patternOf C w))
+        kind lost e h = inl (λ before. ap (λ v. lastFrom C (passedOn v (patternOf C w) before) ws) e ∙ h before)
+
+        go : Passes ws → Passes (w ∷ ws)
+        go (inl h) = kind (verdict C w) refl h
+        go (inr (p, ne, h)) = inr (p, ne, λ before. h (passedOn (verdict C w) (patternOf C w) before))
+
+    later-of : (before : ℕ) (ws : List ℕ) → lastFrom C before ws ≡ later before (lastPattern C ws)
+    unfolding Passes
+    later-of before ws = go (passes ws)
+      where
+        go : Passes ws → lastFrom C before ws ≡ later before (lastPattern C ws)
+        go (inl h) = h before ∙ sym (rw (h 0))
+        go (inr (p, ne, h)) = h before ∙ sym (rw (h 0, ne-eqb p 0 ne))
+
+    pub last-two : (xs ys : List ℕ) → lastPattern C (xs ++ ys) ≡ later (lastPattern C xs) (lastPattern C ys)
+    last-two xs ys = last-append 0 xs ys ∙ later-of (lastPattern C xs) ys
+
+-- ---- three parts, put together either way
+
+pub later-again : (a b c : ℕ) → later a (later b c) ≡ later (later a b) c
+later-again a b c = go (ℕ-discrete c 0)
+  where
+    go : Dec (c ≡ 0) → later a (later b c) ≡ later (later a b) c
+    go (yes z) = rw (eq-eqb c 0 z)
+    go (no ne) = rw (ne-eqb c 0 ne, ne-eqb c 0 ne)
