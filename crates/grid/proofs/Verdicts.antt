@@ -1,4 +1,4 @@
--- The three ways in which the decoder answers, over plain values: clean, mended, lost. Assumes nothing.
+-- The ways in which the decoder answers, over plain values: clean, by a codeword that was found, lost. Assumes nothing.
 use mathlib.Core.Path.{_≡_, refl, sym, ap, _∙_}
 use mathlib.Core.Logic.{_≢_}
 use mathlib.Core.Bool.{true}
@@ -21,10 +21,12 @@ use Rattle.grid_code.proofs.Promises.{promised}
 use Rattle.grid_trials.specs.Steps.{nearOf, Nearby}
 use Rattle.grid_trials.specs.declared.Near.{Near}
 use Rattle.grid_trials.specs.declared.Near.the-variants.{Within, Beyond}
+use Rattle.grid.specs.Answer.{verdictOf}
 use Rattle.grid.specs.Calls.{Judged, Decoded}
-use Rattle.grid.specs.declared.Verdict.the-variants.{Clean, Mended, Lost}
+use Rattle.grid.specs.declared.Verdict as enum
+use Rattle.grid.specs.declared.Verdict.the-variants.{Lost}
 
-some-flips : (d n : ℕ) → n ≢ 0 → answered d n ≡ mended d n
+pub some-flips : (d n : ℕ) → n ≢ 0 → answered d n ≡ mended d n
 some-flips d zero h = absurd (h refl)
 some-flips d (suc n) h = refl
 
@@ -35,6 +37,14 @@ taken-data w places e d p q l s = q .answer ∙ ap dataOf (p .answer) ∙ data-m
 pub judged-clean : (rows : List ℕ) → Judged rows true → (d : ℕ) × (verdict gridCode (joined 8 rows) ≡ clean d)
 judged-clean rows j =
     clean-of (verdict gridCode (joined 8 rows)) (eqb-true (isClean (verdict gridCode (joined 8 rows))) 1 (sym (j .answer)))
+
+-- the statement, from a verdict
+decoded : (rows out : List ℕ) (v : enum.Verdict) (u : Verdict) → verdict gridCode (joined 8 rows) ≡ u → verdictOf v ≡ u
+    → out ≡ digits 8 8 (repaired gridCode (joined 8 rows) u) → Decoded rows (record { verdict = v; grid = record { rows = out } })
+decoded rows out v u e a o = record {
+  answer = a ∙ sym e;
+  repaired = o ∙ sym (ap (λ u. digits 8 8 (repaired gridCode (joined 8 rows) u)) e);
+}
 
 -- ---- clean
 
@@ -58,15 +68,13 @@ module _ (rows : List ℕ) (word : ℕ) (is : word ≡ joined 8 rows) where
       go (mended d n) e = ne-eqb number word (none e refl)
       go lost e = ne-eqb number word (none e refl)
 
-  pub is-clean : (eight : length rows ≡ 8) (small : Below 8 rows) (places e : ℕ) → Masked word places → Gathered places e → Judged rows true
-      → Decoded rows (record { verdict = Clean e; grid = record { rows = rows } })
-  is-clean eight small places e taken read j =
+  pub is-clean : (eight : length rows ≡ 8) (small : Below 8 rows) (places e : ℕ) (v : enum.Verdict) → Masked word places → Gathered places e
+      → Judged rows true → verdictOf v ≡ answered e 0 → Decoded rows (record { verdict = v; grid = record { rows = rows } })
+  is-clean eight small places e v taken read j a =
       let (d, p) = judged-clean rows j in
       let (l, s) = clean-word gridCode (promised .verdicts) (joined 8 rows) d p in
-      record {
-        answer = ap clean (taken-data word places e d taken read l (is ∙ s)) ∙ sym p;
-        repaired = sym (promised .back-and-there rows eight small) ∙ ap (digits 8 8) (s ∙ sym (ap (repaired gridCode (joined 8 rows)) p));
-      }
+      decoded rows rows v (clean d) p (a ∙ ap clean (taken-data word places e d taken read l (is ∙ s)))
+      (sym (promised .back-and-there rows eight small) ∙ ap (digits 8 8) s)
 
 -- ---- by the trials
 
@@ -88,7 +96,6 @@ beyond-is (mended d n) e = let z : _≡_ {A = ℕ} 0 1 = cc in absurd (omega ari
 beyond-is lost e = refl
 
 module _ (rows : List ℕ) (found : Near) (by : Nearby rows found) where
-  -- whether clean or mended, what is written is the codeword
   module _ (number flips : ℕ) (is : found ≡ Within number flips) (places e : ℕ) (taken : Masked number places) (read : Gathered places e)
       (out : List ℕ) (o : out ≡ digits 8 8 number) where
     answers : (verdict gridCode (joined 8 rows) ≡ answered e flips) × (number ≡ codeword e)
@@ -99,22 +106,12 @@ module _ (rows : List ℕ) (found : Near) (by : Nearby rows found) where
         let q : e ≡ d = taken-data number places e d taken read l s in
         (v ∙ sym (ap (λ (x : ℕ). answered x flips) q), s ∙ sym (ap codeword q))
 
-    written : out ≡ digits 8 8 (repaired gridCode (joined 8 rows) (verdict gridCode (joined 8 rows)))
-    written =
-        let (v, s) = answers in
-        o ∙ ap (digits 8 8) (s ∙ sym (ap (repaired gridCode (joined 8 rows)) v ∙ answered-repaired gridCode (joined 8 rows) e flips))
-
-    pub mends-clean : flips ≡ 0 → Decoded rows (record { verdict = Clean e; grid = record { rows = out } })
-    mends-clean z = record { answer = sym (answers .0 ∙ ap (answered e) z); repaired = written }
-
-    pub mends : flips ≢ 0 → Decoded rows (record { verdict = Mended e flips; grid = record { rows = out } })
-    mends ne = record { answer = sym (answers .0 ∙ some-flips e flips ne); repaired = written }
+    -- whether clean or mended, what is written is the codeword
+    pub mends : (v : enum.Verdict) → verdictOf v ≡ answered e flips → Decoded rows (record { verdict = v; grid = record { rows = out } })
+    mends v a =
+        let (u, s) = answers in
+        decoded rows out v (answered e flips) u a (o ∙ ap (digits 8 8) (s ∙ sym (answered-repaired gridCode (joined 8 rows) e flips)))
 
   pub is-lost : found ≡ Beyond → length rows ≡ 8 → Below 8 rows → Decoded rows (record { verdict = Lost; grid = record { rows = rows } })
   is-lost is eight small =
-      let v : verdict gridCode (joined 8 rows) ≡ lost = beyond-is (verdict gridCode (joined 8 rows)) (sym is ∙ by .answer) in
-      record {
-        answer = sym v;
-        repaired =
-            sym (promised .back-and-there rows eight small) ∙ sym (ap (λ x. digits 8 8 (repaired gridCode (joined 8 rows) x)) v);
-      }
+      decoded rows rows Lost lost (beyond-is (verdict gridCode (joined 8 rows)) (sym is ∙ by .answer)) refl (sym (promised .back-and-there rows eight small))

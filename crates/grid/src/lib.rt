@@ -19,8 +19,11 @@
 //
 // The crate grid_code has the parities and what is proved of the code, specs/Calls.antt what each call promises, and specs/Promises.antt
 // what is proved of the calls. As a number a grid has row r in byte r, lowest byte first, and place c of a row in bit c.
+ghost use mathlib.Core.Path.{_≡_};
+ghost use Rattle.codes.specs.Verdict.{answered};
 ghost use Rattle.codes.specs.Promises.{States};
 ghost use Rattle.grid_code.specs.Code.{gridCode};
+ghost use Rattle.grid.specs.Answer.{verdictOf};
 ghost use Rattle.grid.specs.Calls.{Encoded, Numbered, Parted, Judged, Decoded};
 use grid_trials::Near;
 
@@ -39,6 +42,16 @@ pub enum Verdict {
 pub struct Answer {
     pub verdict: Verdict,
     pub grid: Grid,
+}
+
+// The verdict where a codeword was found.
+fn answered(value: u16, flips: u32) -> Verdict
+    ensures { λ r. ⌜ verdictOf r ≡ answered value flips ⌝ }
+{
+    if flips == 0 {
+        return Verdict::Clean(value);
+    }
+    Verdict::Mended { data: value, flips }
 }
 
 impl Grid {
@@ -93,16 +106,9 @@ impl Grid {
             };
         };
         let data = grid_code::data_of(grid_code::places_of(number));
-        let grid = Grid::of_number(number);
-        if flips == 0 {
-            return Answer {
-                verdict: Verdict::Clean(data),
-                grid,
-            };
-        }
         Answer {
-            verdict: Verdict::Mended { data, flips },
-            grid,
+            verdict: answered(data, flips),
+            grid: Grid::of_number(number),
         }
     }
 
@@ -113,7 +119,7 @@ impl Grid {
         if self.is_clean() {
             let value = grid_code::data_of(grid_code::places_of(self.number()));
             return Answer {
-                verdict: Verdict::Clean(value),
+                verdict: answered(value, 0),
                 grid: self,
             };
         }

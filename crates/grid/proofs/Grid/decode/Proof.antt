@@ -13,14 +13,17 @@ use Rattle.grid.proofs.Grid.decode.Tie as tie
 
 returns : tie.Need-returns
 returns c =
-    let rows : List ℕ = c .before .before .before .before .before .args .self .rows in
+    let s = c .before .before .before .before in
+    let rows : List ℕ = s .before .before .args .self .rows in
     let small : (i : ℕ) → Fits w8 (getD rows i 0) = λ i. search needs in
-    is-clean rows (c .before .before .number .result) (c .before .before .number .ensures .answer) (search needs) (λ i. small i .fits)
-    (c .before .places-of .result) (c .data-of .result) (c .before .places-of .ensures) (c .data-of .ensures)
-    (subst (Judged rows) (c .before .before .before .if1 .taken) (c .before .before .before .before .is-clean .ensures))
+    let number = c .before .before .before .number in
+    let taken = c .before .before .places-of in
+    let read = c .before .data-of in
+    is-clean rows (number .result) (number .ensures .answer) (search needs) (λ i. small i .fits) (taken .result) (read .result)
+    (c .answered .result) (taken .ensures) (read .ensures) (subst (Judged rows) (s .if1 .taken) (s .before .is-clean .ensures)) (c .answered .ensures)
 
 pub decode-spec : {M : Type 1} → statement M
 decode-spec =
     tie.close
-    (tie.spec (λ c κs. search needs) (λ c κs. search needs) (λ c κs. search needs) (λ c κs. search needs) returns (λ c κs. search needs)
-    (λ c. search needs))
+    (tie.spec (λ c κs. search needs) (λ c κs. search needs) (λ c κs. search needs) (λ c κs. search needs) (λ c κs. search needs) returns
+    (λ c κs. search needs) (λ c. search needs))
