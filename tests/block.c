@@ -1,6 +1,7 @@
 /* The library's block beside the second program's. `block` is called as `flip.h` says; the bits are 0 to 63 in the first four words of a
-   block, 64 to 95 in the number returned. A difference is reported at the number of the block in its test, or, for one and two flips, at
-   1000 times the place of the one and the place of the other: place p is bit p mod 16 of word p/16. */
+   block, 64 to 95 in the number returned, 128 to 191 in the first four words of the pattern. A difference is reported at the number of the
+   block in its test, or, for one and two flips, at 1000 times the place of the one and the place of the other: place p is bit p mod 16 of
+   word p/16. */
 #include "block_sides.h"
 #include "draw.h"
 #include "flip.h"
@@ -67,15 +68,18 @@ static void worked_numbers(void)
         }
     }
 
-    /* three flips: mended with 2 flips to the block with row 0, column 0 */
-    uint16_t library[WORDS] = {[32] = 1, [34] = 1, [35] = 1}, second[WORDS] = {[32] = 1, [34] = 1, [35] = 1};
-    compare(&t, block_scrub(library, WORDS), 2, 3);
+    /* three flips: mended with 2 flips, in words 0 and 37, to the block with row 0, column 0 */
+    static const uint16_t expected[WORDS] = {[0] = 1, [37] = 0x8000};
+    uint16_t library[WORDS] = {[32] = 1, [34] = 1, [35] = 1}, second[WORDS] = {[32] = 1, [34] = 1, [35] = 1}, pattern[WORDS];
+    compare(&t, block_scrub(library, WORDS, pattern), 2, 3);
     struct block_answer a = second_block_scrub(second, WORDS);
     compare(&t, a.number, 0, 3);
     compare(&t, a.flips, 2, 3);
     for (unsigned r = 0; r < WORDS; r++) {
         compare(&t, library[r], worked[0].words[r], 3);
         compare(&t, second[r], worked[0].words[r], 3);
+        compare(&t, pattern[r], expected[r], 3);
+        compare(&t, a.pattern[r], expected[r], 3);
     }
     report(&t);
 }
@@ -108,18 +112,23 @@ static void codewords(void)
         draw_block(&block);
         read = block;
         scrub(&t, &read, WORDS, k);
+        put_pattern(&block, no_flips);
         compare_states(&t, &read, &block, k);
     }
     report_drawn(t);
 }
 
-/* one flip, or two if the places are not the same, are undone, whichever they are */
+/* one flip, or two if the places are not the same, are undone, whichever they are, and are the pattern */
 static void undone(struct test *t, const struct state *block, unsigned p, unsigned q)
 {
     struct state read = *block, expected = *block;
-    flip(&read, p);
+    uint16_t flips[WORDS] = {0};
+    flip_place(flips, p);
     if (q != p)
-        flip(&read, q);
+        flip_place(flips, q);
+    for (unsigned r = 0; r < WORDS; r++)
+        read.room[BEFORE + r] ^= flips[r];
+    put_pattern(&expected, flips);
     expected.returned = q != p ? 2 : 1;
     scrub(t, &read, WORDS, 1000 * p + q);
     compare_states(t, &read, &expected, 1000 * p + q);
@@ -238,9 +247,13 @@ static void lengths(void)
         struct state block, read, expected;
         draw_block(&block);
         read = block;
-        flip(&read, draw() % PLACES);
+        unsigned place = draw() % PLACES;
+        flip(&read, place);
         expected = n == WORDS ? block : read;
         expected.returned = n == WORDS ? 1 : 3 << 8;
+        put_pattern(&expected, no_flips);
+        if (n == WORDS)
+            flip_place(expected.pattern + BEFORE, place);
         scrub(&scrubs, &read, n, n);
         compare_states(&scrubs, &read, &expected, n);
         for (unsigned m = 0; m <= LONGEST; m++)

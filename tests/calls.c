@@ -2,19 +2,21 @@
    hex, numbers decimal, and `-` is the empty slice or list.
 
      genc N                                 HEX16
-     gdec HEX16                             clean|mended|lost data D flips N repaired HEX16
-     page HEX16 ..                          G C M L F | HEX16 ..
+     gdec HEX16                             clean|mended|lost data D flips N repaired HEX16 pattern HEX16
+     page HEX16 ..                          G C M L F | pattern HEX16 | HEX16 ..
      benc HEX4 ..                           HEX4 ..
-     bscrub HEX4 ..                         clean|mended flips N HEX4 ..
+     bscrub HEX4 ..                         clean|mended flips N HEX4 .. pattern HEX4 ..
      icheck HEX                             grids G blocks B
-     iscrub HEX                             G C M L F | G C M L F | HEX
+     iscrub HEX                             G C M L F | G C M L F | pattern HEX16 | HEX
      iread HEX TITLEROOM DATAROOM FLIPROOM  title T grids G | HEX | D:F D:F ..
      iwrite TITLE ROOM N N ..               HEX
      help                                   CALL WORDS; CALL WORDS; ..
 
    G C M L F is a tally: all, clean, mended, lost, flips. D:F are the data and the flips of a grid. The blocks have as many words as they
-   are given, the one that `benc` writes has 38. A refusal is `refused N`, and where there is a place of the break `refused 4 at PLACE`. A
-   line that is no such call, or lends more than 1,000,000 places, is answered `?`, and standard error has why. */
+   are given, the one that `benc` writes has 38. A pattern has ones in the places that were flipped; that of a page or an image is the last
+   mended grid's, that of a block has 38 words. A refusal is `refused N`, behind which `bscrub` has the pattern too, and where there is a
+   place of the break `refused 4 at PLACE`. A line that is no such call, or lends more than 1,000,000 places, is answered `?`, and standard
+   error has why. */
 #include "library.h"
 #include "text.h"
 
@@ -45,6 +47,12 @@ static void print_tally(const uint32_t *tally)
     printf("%u %u %u %u %u | ", tally[0], tally[1], tally[2], tally[3], tally[4]);
 }
 
+static void print_pattern(uint64_t pattern)
+{
+    printf("pattern ");
+    print_grids(&pattern, 1);
+}
+
 /* Each call is given the words behind its name. It returns 0 if they are none of its. */
 static int genc(char **words, uint64_t n)
 {
@@ -58,25 +66,29 @@ static int genc(char **words, uint64_t n)
 
 static int gdec(char **words, uint64_t n)
 {
-    uint64_t read, verdict = 0, repaired = 0;
+    uint64_t read, verdict = 0, repaired = 0, pattern = 0;
     if (n != 1 || !read_hex(words[0], 16, &read))
         return 0;
-    grid_decode(&read, 1, &verdict, 1, &repaired, 1);
+    grid_decode(&read, 1, &verdict, 1, &repaired, 1, &pattern, 1);
     unsigned data = verdict & LARGEST, flips = verdict >> 16 & 255, number = (unsigned)(verdict >> 24);
     printf("%s ", number == LOST ? "lost" : flips == 0 ? "clean" : "mended");
     printf("data %u flips %u repaired ", data, flips);
     print_grids(&repaired, 1);
+    printf(" ");
+    print_pattern(pattern);
     return 1;
 }
 
 static int page(char **words, uint64_t n)
 {
     uint32_t tally[NUMBERS];
-    uint64_t *grids = read_list(words, &n, 16);
+    uint64_t pattern, *grids = read_list(words, &n, 16);
     if (grids == 0)
         return 0;
-    if (!refused(page_scrub(grids, n, tally, NUMBERS), 0)) {
+    if (!refused(page_scrub(grids, n, tally, NUMBERS, &pattern), 0)) {
         print_tally(tally);
+        print_pattern(pattern);
+        printf(" | ");
         print_grids(grids, n);
     }
     return 1;
@@ -96,14 +108,16 @@ static int benc(char **words, uint64_t n)
 static int bscrub(char **words, uint64_t n)
 {
     uint64_t *list = read_list(words, &n, 4);
-    uint16_t *block = narrow(list, n);
+    uint16_t pattern[BLOCK_WORDS], *block = narrow(list, n);
     if (block == 0)
         return 0;
-    uint32_t returned = block_scrub(block, n);
+    uint32_t returned = block_scrub(block, n, pattern);
     if (!refused(returned >> 8, 0)) {
         printf("%s flips %u ", returned == 0 ? "clean" : "mended", returned);
         print_words(block, n);
     }
+    printf(" pattern ");
+    print_words(pattern, BLOCK_WORDS);
     return 1;
 }
 
@@ -121,12 +135,15 @@ static int icheck(char **words, uint64_t n)
 static int iscrub(char **words, uint64_t n)
 {
     uint32_t tallies[TALLIES];
+    uint64_t pattern;
     uint8_t *image = n == 1 ? read_bytes(words[0], &n) : 0;
     if (image == 0)
         return 0;
-    if (!image_refused(image_scrub(image, n, tallies, TALLIES))) {
+    if (!image_refused(image_scrub(image, n, tallies, TALLIES, &pattern))) {
         print_tally(tallies);
         print_tally(tallies + NUMBERS);
+        print_pattern(pattern);
+        printf(" | ");
         print_bytes(image, n);
     }
     return 1;

@@ -4,8 +4,8 @@
    `campaign [SEED [COUNT]]` flips every set of up to 3 places of a grid and of up to 2 places of a block, and of more places COUNT drawn
    sets for each number of flips. The data is drawn for each word. By the library's answer a word is
 
-     undone   if what was written has come back and the flips are counted right;
-     refused  if it is lost, and stays as it was read;
+     undone   if what was written has come back, the flips are counted right, and the pattern is the flips;
+     refused  if it is lost, stays as it was read, and the pattern is zero;
      wrong    in all other cases.
 
    The status is 1 if the two answers to a word differ in anything, if up to the radius a word is not undone, or if a grid with 8 flips is
@@ -14,7 +14,8 @@
 
    `campaign SIDE BIT`, where SIDE is `library` or `second program`, runs one code with that bit of one answer of that side flipped: 0 to 31
    in the verdict of a grid, 32 to 63 in rows 0 to 3 of the repaired grid, 64 to 95 in the number that is returned for a block, 96 to 127 in
-   the first two words of the block. It has to fail. */
+   the first two words of the block, 128 to 191 in the pattern of a grid, 192 to 255 in the first four words of that of a block. It has to
+   fail. */
 #include "codes.h"
 #include "draw.h"
 #include "flip.h"
@@ -31,6 +32,9 @@ enum { STANDARD_ERROR = 2, BAD_ARGUMENTS = 2 };
 /* of SEED and COUNT; ten times as much is still a number of 64 bits */
 static const uint64_t largest = 1000000000000000000;
 static uint64_t count = 1000000;
+
+/* the pattern of no flips */
+static const union bits none = {.bytes = {0}};
 
 /* a row of the table; `all` is how many words it will have */
 struct row {
@@ -72,21 +76,33 @@ static void damage(const struct code *c, struct damaged *d, const unsigned *plac
 {
     d->undone = c->write(&d->written, n);
     d->read = d->written;
+    d->flips = none;
     for (unsigned k = 0; k < n; k++)
-        d->read.bytes[places[k] / 8] ^= (uint8_t)(1 << places[k] % 8);
+        d->flips.bytes[places[k] / 8] |= (uint8_t)(1 << places[k] % 8);
+    for (unsigned k = 0; k < c->places / 8; k++)
+        d->read.bytes[k] ^= d->flips.bytes[k];
 }
 
-/* what is flipped, once: in the number returned, and in the first bytes that were left */
+/* what is flipped, once: in the number returned and in the first bytes that were left, and in those of the pattern */
 static void flip(struct said *a, uint64_t *flips)
 {
-    a->returned ^= *flips & UINT32_MAX;
-    a->left.grid ^= *flips >> 32;
-    *flips = 0;
+    a->returned ^= flips[0] & UINT32_MAX;
+    a->left.grid ^= flips[0] >> 32;
+    a->pattern.grid ^= flips[2];
+    flips[0] = flips[2] = 0;
 }
 
-static int same(const struct code *c, const union bits *a, const union bits *b)
+/* whether a bit of one of the code's answers is to be flipped */
+static int has_flip(const struct code *c)
 {
-    return memcmp(a, b, c->places / 8) == 0;
+    return (c->flip_library[0] | c->flip_library[2] | c->flip_second[0] | c->flip_second[2]) != 0;
+}
+
+/* whether that is what a side has said */
+static int says(const struct code *c, const struct said *a, uint64_t returned, const union bits *left, const union bits *pattern)
+{
+    unsigned bytes = c->places / 8;
+    return a->returned == returned && memcmp(&a->left, left, bytes) == 0 && memcmp(&a->pattern, pattern, bytes) == 0;
 }
 
 static void judge(struct campaign *c, struct row *r, const struct damaged *d, struct said library, struct said second)
@@ -95,9 +111,9 @@ static void judge(struct campaign *c, struct row *r, const struct damaged *d, st
     uint64_t at = c->agree.compared;
     flip(&library, code->flip_library);
     flip(&second, code->flip_second);
-    int agree = library.returned == second.returned && same(code, &library.left, &second.left);
-    int undone = library.returned == d->undone && same(code, &library.left, &d->written);
-    int refused = library.returned == code->lost && same(code, &library.left, &d->read);
+    int agree = says(code, &library, second.returned, &second.left, &second.pattern);
+    int undone = says(code, &library, d->undone, &d->written, &d->flips);
+    int refused = says(code, &library, code->lost, &d->read, &none);
     int kept = r->flips <= code->undone ? undone : r->flips <= code->refused ? refused : 1;
     if (!(agree && kept) && c->agree.differ + c->promise.differ == 0) {
         c->word = *d;
@@ -151,6 +167,8 @@ static void print_said(const struct code *c, const char *side, const struct said
 {
     printf("  %s returned %08llX and left ", side, (unsigned long long)a->returned);
     c->print(&a->left);
+    printf(", pattern ");
+    c->print(&a->pattern);
     printf("\n");
 }
 
@@ -206,7 +224,7 @@ int main(int n, char **words)
 {
     if (n == 3 && read_flip(words)) {
         count = 1;
-        return run(*grid.flip_library != 0 || *grid.flip_second != 0 ? &grid : &block);
+        return run(has_flip(&grid) ? &grid : &block);
     }
     if (!read_arguments(n, words)) {
         fprintf(stderr, "usage: tests/campaign [SEED [COUNT]], both decimal, COUNT from 1\n");

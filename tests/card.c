@@ -1,7 +1,7 @@
 /* The library's check, scrub and read-back of a card image beside the second program's. `card` is called as `flip.h` says; the bits are 0
-   to 63 in the number that a scrub returns, 64 to 127 in the first eight bytes of the image. `card images DIR` and `card images DIR SEED`
-   compare nothing: they write the images to files of DIR, which is there, and to DIR/expected the name of each with what the bench has to
-   print. A difference is reported at the number of the image, which is that of its file. */
+   to 63 in the number that a scrub returns, 64 to 127 in the first eight bytes of the image, 128 to 191 in the pattern. `card images DIR`
+   and `card images DIR SEED` compare nothing: they write the images to files of DIR, which is there, and to DIR/expected the name of each
+   with what the bench has to print. A difference is reported at the number of the image, which is that of its file. */
 #include "flip.h"
 #include "forms.h"
 #include "images.h"
@@ -65,17 +65,21 @@ static void read_back(struct test *t, const struct state *lent)
     compare_states(t, &library, &second, number);
 }
 
-/* a second scrub finds clean + mended clean, the same lost, 0 mended, 0 flips, and alters nothing; what was refused is refused again */
+/* a second scrub finds clean + mended clean, the same lost, 0 mended, 0 flips, pattern 0, and alters nothing; what was refused is refused
+   again */
 static void scrub_again(const struct state *once)
 {
     static struct state twice, expected;
     copy_state(&twice, once);
     copy_state(&expected, once);
-    twice.returned = image_scrub(image_in(&twice), twice.lengths.image, tallies_in(&twice), TALLIES);
-    for (unsigned k = 0; k < TALLIES && once->returned == 0; k += TALLY) {
-        uint32_t *tally = tallies_in(&expected) + k;
-        tally[1] += tally[2];
-        tally[2] = tally[4] = 0;
+    twice.returned = image_scrub(image_in(&twice), twice.lengths.image, tallies_in(&twice), TALLIES, pattern_in(&twice));
+    if (once->returned == 0) {
+        *pattern_in(&expected) = 0;
+        for (unsigned k = 0; k < TALLIES; k += TALLY) {
+            uint32_t *tally = tallies_in(&expected) + k;
+            tally[1] += tally[2];
+            tally[2] = tally[4] = 0;
+        }
     }
     compare_states(&again, &twice, &expected, number);
 }
@@ -86,9 +90,10 @@ static void scrub(struct test *t, const struct state *lent)
     copy_state(&library, lent);
     copy_state(&second, lent);
     copy_state(&plainly, lent);
-    library.returned = image_scrub(image_in(&library), library.lengths.image, tallies_in(&library), TALLIES);
-    second.returned = image_number(second_image_scrub(image_in(&second), second.lengths.image, tallies_in(&second)), 0);
-    plainly.returned = plain_image_scrub(image_in(&plainly), plainly.lengths.image, tallies_in(&plainly));
+    uint64_t n = lent->lengths.image;
+    library.returned = image_scrub(image_in(&library), n, tallies_in(&library), TALLIES, pattern_in(&library));
+    second.returned = image_number(second_image_scrub(image_in(&second), n, tallies_in(&second), pattern_in(&second)), 0);
+    plainly.returned = plain_image_scrub(image_in(&plainly), n, tallies_in(&plainly), pattern_in(&plainly));
     compare_states(&plain_scrubbed, &plainly, &second, number);
     scrub_again(&library);
     flip(&library, flip_library);
@@ -137,12 +142,62 @@ static void worked_image(void)
     compare(&t, data_in(&lent)[0] | (uint64_t)data_in(&lent)[1] << 16, 1, 0);
     compare(&t, flips_in(&lent)[0] | (uint64_t)flips_in(&lent)[1] << 8, 1 | 255 << 8, 0);
     compare(&t, memcmp(image_in(&lent), example.bytes, 29), 0, 0);
-    compare(&t, image_scrub(image_in(&lent), 29, tallies_in(&lent), TALLIES), 0, 0);
+    compare(&t, image_scrub(image_in(&lent), 29, tallies_in(&lent), TALLIES, pattern_in(&lent)), 0, 0);
     compare(&t, memcmp(tallies_in(&lent), tallies, sizeof tallies), 0, 0);
+    compare(&t, *pattern_in(&lent), 1, 0);
     compare(&t, image_in(&lent)[10], 0xB1, 0);
     image_in(&lent)[10] = 0xB0;
     compare(&t, memcmp(image_in(&lent), example.bytes, 29), 0, 0);
     report(&t);
+}
+
+/* the data fields that are put in every order: a grid that is mended, clean or lost, no grid, a block that is mended */
+enum kind { MENDED_GRID, CLEAN_GRID, LOST_GRID, NO_GRID, MENDED_BLOCK, KINDS };
+
+/* a block of zeros with one flip */
+static void add_mended_block(void)
+{
+    unsigned place = draw() % BLOCK_PLACES;
+    add_head(&im, BLOCK, BLOCK_BYTES);
+    for (unsigned k = 0; k < BLOCK_BYTES; k++)
+        add_byte(&im, k == place / 8 ? 1 << place % 8 : 0);
+}
+
+/* It returns what is flipped in the grid. */
+static uint64_t add_kind(enum kind kind)
+{
+    uint64_t flips = draw_places(UINT64_MAX, kind == MENDED_GRID ? 1 + draw() % 7 : kind == LOST_GRID ? 8 : 0);
+    if (kind == MENDED_BLOCK) {
+        add_mended_block();
+    } else if (kind == NO_GRID) {
+        add_head(&im, GRIDS, 0);
+    } else {
+        add_head(&im, GRIDS, GRID_BYTES);
+        add_grid(&im, second_grid((uint16_t)draw()) ^ flips);
+    }
+    return flips;
+}
+
+/* every order of up to three data fields: the pattern is what was flipped in the last grid that is mended */
+static void last_mended(void)
+{
+    static struct state lent;
+    struct test t = {.name = "image scrub, the pattern of the last mended grid"};
+    for (unsigned n = 0, orders = 1; n <= 3; n++, orders *= KINDS)
+        for (unsigned order = 0; order < orders; order++, number++) {
+            uint64_t last = 0;
+            begin(&im, 1);
+            for (unsigned k = 0, rest = order; k < n; k++, rest /= KINDS) {
+                uint64_t flips = add_kind(rest % KINDS);
+                last = rest % KINDS == MENDED_GRID ? flips : last;
+            }
+            add_head(&im, END, 0);
+            lend(&lent, &im, (struct lengths){.tallies = TALLIES});
+            scrub(&t, &lent);
+            compare(&t, image_scrub(image_in(&lent), im.n, tallies_in(&lent), TALLIES, pattern_in(&lent)), 0, number);
+            compare(&t, *pattern_in(&lent), last, number);
+        }
+    report_drawn(t);
 }
 
 /* each of the three rooms one place too short, just long enough, and longer: 27 combinations, and one with no room at all */
@@ -169,7 +224,7 @@ static void try_tallies(struct test *t, struct image *im)
             continue;
         lend(&before, im, (struct lengths){.tallies = m});
         copy_state(&after, &before);
-        after.returned = image_scrub(image_in(&after), im->n, tallies_in(&after), m);
+        after.returned = image_scrub(image_in(&after), im->n, tallies_in(&after), m, pattern_in(&after));
         before.returned = (uint64_t)255 << 32;
         compare_states(t, &after, &before, number);
     }
@@ -219,6 +274,7 @@ static void all(void)
     use_set(compare_image, (struct set){"images, every byte of a small one set to every value", every_byte});
     use_set(try_rooms, (struct set){"image read, rooms too short, just long enough and longer", some_of_each});
     use_set(try_tallies, (struct set){"image scrub, tallies of other lengths", some_of_each});
+    last_mended();
     worked_image();
     report_drawn(again);
     report_drawn(plain_checked);

@@ -115,14 +115,21 @@ static void reads(struct test *t, struct card *card, uint64_t title, uint64_t n)
     compare(t, memcmp(read.flips, card->flips, n), 0, t->compared);
 }
 
-/* A scrub leaves the image as it was written, and finds so many grids mended. */
-static void scrubs(struct test *t, const struct card *card, const uint8_t *written, uint64_t length, uint32_t n, uint32_t mended,
-                   uint32_t flips)
+/* what a scrub is to find: the pattern is what was flipped in the last grid that is mended */
+struct found {
+    uint32_t grids, mended, flips;
+    uint64_t pattern;
+};
+
+/* A scrub leaves the image as it was written. */
+static void scrubs(struct test *t, const struct card *card, const uint8_t *written, uint64_t length, struct found f)
 {
     struct card scrubbed = *card;
-    uint32_t tallies[TALLIES], expected[TALLIES] = {n, n - mended, mended, 0, flips};
-    compare(t, image_scrub(scrubbed.image, length, tallies, TALLIES), 0, t->compared);
+    uint32_t tallies[TALLIES], expected[TALLIES] = {f.grids, f.grids - f.mended, f.mended, 0, f.flips};
+    uint64_t pattern = draw();
+    compare(t, image_scrub(scrubbed.image, length, tallies, TALLIES, &pattern), 0, t->compared);
     compare(t, memcmp(tallies, expected, sizeof expected), 0, t->compared);
+    compare(t, pattern, f.pattern, t->compared);
     compare(t, memcmp(scrubbed.image, written, length), 0, t->compared);
 }
 
@@ -134,7 +141,8 @@ static void written(void)
     struct test damaged = {.name = "a written image with up to 7 flips in a grid"};
     for (unsigned k = 0; k < 70; k++) {
         struct card card = {0};
-        uint32_t n = sizes[k % 7], mended = 0, flips = 0;
+        uint32_t n = sizes[k % 7];
+        struct found found = {.grids = n};
         uint64_t title = 1 + draw() % LONGEST_TITLE, length = 9 + title + 8 * n;
         for (unsigned p = 0; p < title; p++)
             card.title[p] = (uint8_t)(0x20 + draw() % 95);
@@ -142,20 +150,21 @@ static void written(void)
             card.numbers[p] = (uint16_t)draw();
         compare(&clean, image_write(card.title, title, card.numbers, n, card.image, length), length, clean.compared);
         reads(&clean, &card, title, n);
-        scrubs(&clean, &card, card.image, length, n, 0, 0);
+        scrubs(&clean, &card, card.image, length, found);
 
         struct card hit = card;
         for (unsigned p = 0; p < n; p++) {
-            uint64_t grid;
-            hit.flips[p] = (uint8_t)(draw() % 8);
-            mended += hit.flips[p] != 0;
-            flips += hit.flips[p];
+            uint64_t grid, flips = draw_places(UINT64_MAX, draw() % 8);
+            hit.flips[p] = (uint8_t)second_distance(flips, 0);
+            found.mended += flips != 0;
+            found.flips += hit.flips[p];
+            found.pattern = flips != 0 ? flips : found.pattern;
             memcpy(&grid, hit.image + 6 + title + 8 * p, sizeof grid);
-            grid ^= draw_places(UINT64_MAX, hit.flips[p]);
+            grid ^= flips;
             memcpy(hit.image + 6 + title + 8 * p, &grid, sizeof grid);
         }
         reads(&damaged, &hit, title, n);
-        scrubs(&damaged, &hit, card.image, length, n, mended, flips);
+        scrubs(&damaged, &hit, card.image, length, found);
     }
     report_drawn(clean);
     report_drawn(damaged);

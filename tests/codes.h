@@ -6,6 +6,8 @@
 #include "library.h"
 #include "text.h"
 
+void *memcpy(void *, const void *, unsigned long);
+
 /* how many words are answered at a time, at most; a block's data words, words and places */
 enum { SLICE = 1000, DATA = 32, WORDS = 38, PLACES = 608 };
 
@@ -16,20 +18,21 @@ union bits {
     uint8_t bytes[2 * WORDS];
 };
 
-/* a word as it was written and as it is read, and what is returned for it if its flips are undone */
+/* a word as it was written, its flips and the word as it is read, and what is returned for it if its flips are undone */
 struct damaged {
-    union bits written, read;
+    union bits written, flips, read;
     uint64_t undone;
 };
 
-/* what a side returned and left: a verdict and the repaired grid, or the number of a scrub and the block */
+/* what a side returned and left: a verdict and the repaired grid, or the number of a scrub and the block; and the pattern */
 struct said {
     uint64_t returned;
-    union bits left;
+    union bits left, pattern;
 };
 
 /* Each row of its table is for a number of flips. Up to `every` flips the row has every set of places. Up to `undone` flips all have to be
-   undone, and from there up to `refused` refused. */
+   undone, and from there up to `refused` refused. Of what is flipped on a side the first number is for what is returned and left, and the
+   third for the pattern. */
 struct code {
     const char *name, *promise;
     const unsigned *flips;
@@ -58,23 +61,26 @@ static uint64_t write_block(union bits *written, unsigned flips)
 
 static void answer_grids(const struct damaged *words, uint64_t n, struct said *library, struct said *second)
 {
-    static uint64_t read[SLICE], verdicts[SLICE], repaired[SLICE];
+    static uint64_t read[SLICE], verdicts[SLICE], repaired[SLICE], patterns[SLICE];
     for (uint64_t k = 0; k < n; k++)
         read[k] = words[k].read.grid;
-    grid_decode(read, n, verdicts, n, repaired, n);
+    grid_decode(read, n, verdicts, n, repaired, n, patterns, n);
     for (uint64_t k = 0; k < n; k++) {
         struct answer a = second_decode(words[k].read.grid);
-        library[k] = (struct said){verdicts[k], {.grid = repaired[k]}};
-        second[k] = (struct said){verdict_number(a), {.grid = a.repaired}};
+        library[k] = (struct said){verdicts[k], {.grid = repaired[k]}, {.grid = patterns[k]}};
+        second[k] = (struct said){verdict_number(a), {.grid = a.repaired}, {.grid = a.pattern}};
     }
 }
 
+/* the word stands where the pattern is written, so that it has to be written even if it is zero */
 static void answer_blocks(const struct damaged *words, uint64_t n, struct said *library, struct said *second)
 {
     for (uint64_t k = 0; k < n; k++) {
-        library[k].left = second[k].left = words[k].read;
-        library[k].returned = block_scrub(library[k].left.block, WORDS);
-        second[k].returned = scrub_number(second_block_scrub(second[k].left.block, WORDS));
+        library[k].left = library[k].pattern = second[k].left = words[k].read;
+        library[k].returned = block_scrub(library[k].left.block, WORDS, library[k].pattern.block);
+        struct block_answer a = second_block_scrub(second[k].left.block, WORDS);
+        second[k].returned = scrub_number(a);
+        memcpy(second[k].pattern.block, a.pattern, sizeof a.pattern);
     }
 }
 

@@ -1,41 +1,78 @@
 /* The library's decoder beside the second program's. `decode` is called as `flip.h` says; the bits are 0 to 63 in a verdict, 64 to 127 in
-   the repaired grid. Answers that differ are reported at the word that was read. */
+   the repaired grid, 128 to 191 in the pattern. Answers that differ are reported at the word that was read. */
 #include "draw.h"
 #include "flip.h"
 #include "forms.h"
 #include "library.h"
 #include "plain.h"
 
-enum { VALUES = 65536, SLICE = 1000, MANY = 20000, PAIRS = 2000 };
+enum { VALUES = 65536, RADIUS = 7, SLICE = 1000, MANY = 20000, PAIRS = 2000 };
 
 static struct test plain = {.name = "the plain version's decode, the same words"};
 
-/* the words that wait until there is a slice of them */
-static uint64_t waiting[SLICE], waiting_count;
+/* an answer as three numbers: the verdict, the repaired grid and the pattern */
+enum { NUMBERS = 3 };
+struct numbers {
+    uint64_t at[NUMBERS];
+};
+
+static struct numbers numbers_of(struct answer a)
+{
+    return (struct numbers){{verdict_number(a), a.repaired, a.pattern}};
+}
+
+static void compare_numbers(struct test *t, struct numbers a, struct numbers b, uint64_t read)
+{
+    for (unsigned k = 0; k < NUMBERS; k++)
+        compare(t, a.at[k], b.at[k], read);
+}
+
+/* the first answer with its flips */
+static struct numbers flipped(struct numbers a, uint64_t flips[FLIP_WORDS])
+{
+    for (unsigned k = 0; k < NUMBERS; k++) {
+        a.at[k] ^= flips[k];
+        flips[k] = 0;
+    }
+    return a;
+}
+
+/* for where whoever made a word does not know its pattern; none is that, since it has seven ones at most */
+static const uint64_t NOT_KNOWN = UINT64_MAX;
+
+/* the words that wait until there is a slice of them, and what is known of their patterns */
+static uint64_t waiting[SLICE], known[SLICE], waiting_count;
 
 static void decode_waiting(struct test *t)
 {
-    static uint64_t verdicts[SLICE], repaired[SLICE], plain_verdicts[SLICE], plain_repaired[SLICE];
-    grid_decode(waiting, waiting_count, verdicts, waiting_count, repaired, waiting_count);
-    plain_decode(waiting, waiting_count, plain_verdicts, plain_repaired);
-    for (uint64_t k = 0; k < waiting_count; k++) {
-        struct answer a = second_decode(waiting[k]);
-        uint64_t library[2] = {verdicts[k], repaired[k]}, second[2] = {verdict_number(a), a.repaired};
-        for (unsigned p = 0; p < 2; p++) {
-            compare(t, library[p] ^ flip_library[p], second[p] ^ flip_second[p], waiting[k]);
-            flip_library[p] = flip_second[p] = 0;
-        }
-        compare(&plain, plain_verdicts[k], second[0], waiting[k]);
-        compare(&plain, plain_repaired[k], second[1], waiting[k]);
+    static uint64_t library[NUMBERS][SLICE], plainly[NUMBERS][SLICE];
+    uint64_t n = waiting_count;
+    grid_decode(waiting, n, library[0], n, library[1], n, library[2], n);
+    plain_decode(waiting, n, plainly[0], plainly[1], plainly[2]);
+    for (uint64_t k = 0; k < n; k++) {
+        struct numbers second = numbers_of(second_decode(waiting[k]));
+        struct numbers shown = {{library[0][k], library[1][k], library[2][k]}};
+        compare_numbers(t, flipped(shown, flip_library), flipped(second, flip_second), waiting[k]);
+        compare_numbers(&plain, (struct numbers){{plainly[0][k], plainly[1][k], plainly[2][k]}}, second, waiting[k]);
+        if (known[k] != NOT_KNOWN)
+            compare(t, library[2][k], known[k], waiting[k]);
     }
     waiting_count = 0;
 }
 
-static void decode(struct test *t, uint64_t read)
+static void decode(struct test *t, uint64_t read, uint64_t pattern)
 {
-    waiting[waiting_count++] = read;
+    waiting[waiting_count] = read;
+    known[waiting_count++] = pattern;
     if (waiting_count == SLICE)
         decode_waiting(t);
+}
+
+/* up to seven flips of a codeword are the pattern, and eight are lost */
+static void decode_flipped(struct test *t, uint64_t codeword, uint64_t flips)
+{
+    unsigned n = second_distance(flips, 0);
+    decode(t, codeword ^ flips, n <= RADIUS ? flips : n == RADIUS + 1 ? 0 : NOT_KNOWN);
 }
 
 static void finish(struct test *t)
@@ -65,43 +102,54 @@ static void worked_words(void)
         uint64_t read;
         struct answer answer;
     } worked[] = {
-        {0x000000B0000000B1, {.data = 0, .flips = 7, .repaired = 0}},
-        {0x000000B1000000B1, {.number = 1, .repaired = 0x000000B1000000B1}},
-        {0x000001B1000000B1, {.data = 1, .flips = 7, .repaired = 0xB100B1B1000000B1}},
-        {0xFFFFFFFFFFFFFFFF, {.data = 65535, .flips = 0, .repaired = 0xFFFFFFFFFFFFFFFF}},
+        {0x000000B0000000B1, {.data = 0, .flips = 7, .repaired = 0, .pattern = 0x000000B0000000B1}},
+        {0x000000B1000000B1, {.number = 1, .repaired = 0x000000B1000000B1, .pattern = 0}},
+        {0x000001B1000000B1, {.data = 1, .flips = 7, .repaired = 0xB100B1B1000000B1, .pattern = 0xB100B00000000000}},
+        {0xFFFFFFFFFFFFFFFF, {.data = 65535, .flips = 0, .repaired = 0xFFFFFFFFFFFFFFFF, .pattern = 0}},
     };
     struct test t = {.name = "decode, the worked words"};
     for (unsigned k = 0; k < sizeof worked / sizeof *worked; k++) {
-        struct answer second = second_decode(worked[k].read);
-        uint64_t verdict, repaired;
-        grid_decode(&worked[k].read, 1, &verdict, 1, &repaired, 1);
-        compare(&t, verdict, verdict_number(worked[k].answer), worked[k].read);
-        compare(&t, repaired, worked[k].answer.repaired, worked[k].read);
-        compare(&t, verdict_number(second), verdict_number(worked[k].answer), worked[k].read);
-        compare(&t, second.repaired, worked[k].answer.repaired, worked[k].read);
+        uint64_t read = worked[k].read;
+        struct numbers expected = numbers_of(worked[k].answer), library = {{NOT_KNOWN, NOT_KNOWN, NOT_KNOWN}};
+        grid_decode(&read, 1, &library.at[0], 1, &library.at[1], 1, &library.at[2], 1);
+        compare_numbers(&t, library, expected, read);
+        compare_numbers(&t, numbers_of(second_decode(read)), expected, read);
     }
     report(&t);
 }
 
+/* the answers to every codeword, where something else stands before they are given */
+static struct {
+    uint64_t read[VALUES], verdicts[VALUES], repaired[VALUES], patterns[VALUES];
+} clean;
+
+static void read_codewords(void)
+{
+    for (uint32_t d = 0; d < VALUES; d++) {
+        clean.read[d] = second_grid((uint16_t)d);
+        clean.verdicts[d] = clean.repaired[d] = clean.patterns[d] = NOT_KNOWN;
+    }
+}
+
 /* a codeword is at 0 places from itself, so its answer is known without looking at the others */
+static void compare_codewords(struct test *t)
+{
+    for (uint32_t d = 0; d < VALUES; d++) {
+        struct numbers found = {{clean.verdicts[d], clean.repaired[d], clean.patterns[d]}};
+        compare_numbers(t, found, (struct numbers){{d, clean.read[d], 0}}, clean.read[d]);
+    }
+}
+
 static void every_codeword(void)
 {
-    static uint64_t codewords[VALUES], verdicts[VALUES], repaired[VALUES];
     struct test t = {.name = "decode, every codeword"};
-    for (uint32_t d = 0; d < VALUES; d++)
-        codewords[d] = second_grid((uint16_t)d);
-    grid_decode(codewords, VALUES, verdicts, VALUES, repaired, VALUES);
-    for (uint32_t d = 0; d < VALUES; d++) {
-        compare(&t, verdicts[d], d, codewords[d]);
-        compare(&t, repaired[d], codewords[d], codewords[d]);
-    }
+    read_codewords();
+    grid_decode(clean.read, VALUES, clean.verdicts, VALUES, clean.repaired, VALUES, clean.patterns, VALUES);
+    compare_codewords(&t);
     report(&t);
-
-    plain_decode(codewords, VALUES, verdicts, repaired);
-    for (uint32_t d = 0; d < VALUES; d++) {
-        compare(&plain, verdicts[d], d, codewords[d]);
-        compare(&plain, repaired[d], codewords[d], codewords[d]);
-    }
+    read_codewords();
+    plain_decode(clean.read, VALUES, clean.verdicts, clean.repaired, clean.patterns);
+    compare_codewords(&plain);
 }
 
 static void every_pattern(void)
@@ -110,13 +158,13 @@ static void every_pattern(void)
     for (unsigned k = 0; k < 2; k++) {
         uint64_t codeword = second_grid((uint16_t)draw());
         for (unsigned a = 0; a < 64; a++) {
-            uint64_t one = codeword ^ (uint64_t)1 << a;
-            decode(&t, one);
+            uint64_t one = (uint64_t)1 << a;
+            decode_flipped(&t, codeword, one);
             for (unsigned b = 0; b < a; b++) {
-                uint64_t two = one ^ (uint64_t)1 << b;
-                decode(&t, two);
+                uint64_t two = one | (uint64_t)1 << b;
+                decode_flipped(&t, codeword, two);
                 for (unsigned c = 0; c < b; c++)
-                    decode(&t, two ^ (uint64_t)1 << c);
+                    decode_flipped(&t, codeword, two | (uint64_t)1 << c);
             }
         }
     }
@@ -129,13 +177,13 @@ static void flipped_words(void)
     struct test anywhere = {.name = "decode, 0 to 10 flips anywhere"}, close = {.name = "decode, 0 to 10 flips in few rows and columns"};
     for (unsigned k = 0; k < MANY / 2; k++) {
         uint64_t codeword = second_grid((uint16_t)draw());
-        decode(&anywhere, codeword ^ draw_places(UINT64_MAX, draw() % 11));
+        decode_flipped(&anywhere, codeword, draw_places(UINT64_MAX, draw() % 11));
     }
     finish(&anywhere);
     for (unsigned k = 0; k < MANY / 2; k++) {
         uint64_t codeword = second_grid((uint16_t)draw());
         uint64_t rows = draw_places(0x0101010101010101, 2 + draw() % 2), columns = draw_places(0xFF, 3 + draw() % 2);
-        decode(&close, codeword ^ draw_places(rows * columns, draw() % 11));
+        decode_flipped(&close, codeword, draw_places(rows * columns, draw() % 11));
     }
     finish(&close);
 }
@@ -144,11 +192,11 @@ static void random_words(void)
 {
     struct test t = {.name = "decode, random words"};
     for (unsigned k = 0; k < MANY; k++)
-        decode(&t, draw());
+        decode(&t, draw(), NOT_KNOWN);
     finish(&t);
 }
 
-/* on the way from a codeword to one that is 16 places away: 7 of these places flipped, then 8, then 9 */
+/* on the way from a codeword to one that is 16 places away: 7 of these places flipped, then 8, then 9, which is 7 from the other one */
 static void half_way(void)
 {
     static uint16_t near[VALUES];
@@ -165,7 +213,7 @@ static void half_way(void)
             uint64_t read = from ^ draw_places(from ^ to, flips);
             compare(&t, second_distance(read, from), flips, read);
             compare(&t, second_distance(read, to), 16 - flips, read);
-            decode(&t, read);
+            decode(&t, read, flips == 7 ? read ^ from : flips == 8 ? 0 : read ^ to);
         }
     }
     finish(&t);
@@ -175,20 +223,21 @@ static void half_way(void)
 static void lengths(void)
 {
     enum { ROOM = 4, UNTOUCHED = 12345 };
-    struct test t = {.name = "decode, every combination of three lengths"};
-    for (unsigned k = 0; k < ROOM * ROOM * ROOM; k++) {
-        uint64_t n = k % ROOM, m = k / ROOM % ROOM, l = k / ROOM / ROOM;
-        uint64_t read[ROOM], verdicts[ROOM], repaired[ROOM];
+    struct test t = {.name = "decode, every combination of four lengths"};
+    for (unsigned k = 0; k < ROOM * ROOM * ROOM * ROOM; k++) {
+        uint64_t n = k % ROOM, m = k / ROOM % ROOM, l = k / ROOM / ROOM % ROOM, o = k / ROOM / ROOM / ROOM;
+        uint64_t read[ROOM], verdicts[ROOM], repaired[ROOM], patterns[ROOM];
         for (unsigned p = 0; p < ROOM; p++) {
             read[p] = second_grid((uint16_t)p);
-            verdicts[p] = repaired[p] = UNTOUCHED;
+            verdicts[p] = repaired[p] = patterns[p] = UNTOUCHED;
         }
-        grid_decode(read, n, verdicts, m, repaired, l);
+        grid_decode(read, n, verdicts, m, repaired, l, patterns, o);
         for (unsigned p = 0; p < ROOM; p++) {
-            int written = n == m && m == l && p < n;
+            int written = n == m && m == l && l == o && p < n;
             compare(&t, read[p], second_grid((uint16_t)p), k);
             compare(&t, verdicts[p], written ? p : UNTOUCHED, k);
             compare(&t, repaired[p], written ? second_grid((uint16_t)p) : UNTOUCHED, k);
+            compare(&t, patterns[p], written ? 0 : UNTOUCHED, k);
         }
     }
     report(&t);

@@ -9,8 +9,9 @@
 
 int strcmp(const char *, const char *);
 
-/* what is flipped in one answer of either side: its bits 0 to 63, and 64 to 127 */
-static uint64_t flip_library[2], flip_second[2];
+/* what is flipped in one answer of either side: its bits 0 to 63, 64 to 127, and so on */
+enum { FLIP_WORDS = 4 };
+static uint64_t flip_library[FLIP_WORDS], flip_second[FLIP_WORDS];
 
 /* Reads `SIDE BIT` behind a program's name. It returns 0 if SIDE is neither `library` nor `second program`. */
 static inline int read_flip(char **words)
@@ -19,7 +20,7 @@ static inline int read_flip(char **words)
     if (flips == 0)
         return 0;
     unsigned long long bit = strtoull(words[2], 0, 10);
-    flips[bit / 64 % 2] = (uint64_t)1 << bit % 64;
+    flips[bit / 64 % FLIP_WORDS] = (uint64_t)1 << bit % 64;
     return 1;
 }
 

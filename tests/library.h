@@ -9,13 +9,15 @@ uint32_t grid_radius(void);
 uint32_t grid_length(void);
 uint32_t grid_distance(void);
 
-/* A verdict is one number: the data, from bit 16 on the flips, from bit 24 on the refusal's number (0 none, 1 lost). It is for three
-   slices of one length; for others nothing is done. */
-void grid_decode(const uint64_t *words, uint64_t n, uint64_t *verdicts, uint64_t m, uint64_t *repaired, uint64_t k);
+/* A verdict is one number: the data, from bit 16 on the flips, from bit 24 on the refusal's number (0 none, 1 lost). A pattern has ones in
+   the places that were flipped, and is 0 if the word is clean or lost. The four slices have one length; for others nothing is done. */
+void grid_decode(const uint64_t *words, uint64_t n, uint64_t *verdicts, uint64_t m, uint64_t *repaired, uint64_t k, uint64_t *patterns,
+                 uint64_t p);
 
 /* It returns the refusal's number, 3, or 0 if there is none. The tally has five places: grids, clean, mended, lost, flips; with any other
-   length 255 is returned and nothing is done. */
-uint32_t page_scrub(uint64_t *page, uint64_t n, uint32_t *tally, uint64_t m);
+   length 255 is returned and nothing is done. The pattern is that of the last mended grid, 0 if none is mended; where the page is refused
+   it is not touched. */
+uint32_t page_scrub(uint64_t *page, uint64_t n, uint32_t *tally, uint64_t m, uint64_t *pattern);
 
 uint32_t block_radius(void);
 uint32_t block_length(void);
@@ -24,8 +26,9 @@ uint32_t block_distance(void);
 /* The words of the block of 32 data words, into 38 words. It returns the refusal's number, 3, or 0 if there is none. */
 uint32_t block_encode(const uint16_t *values, uint64_t n, uint16_t *words, uint64_t m);
 
-/* A block scrubbed in place. It returns the flips, and from bit 8 on the refusal's number (0 none, 2 lost, 3 another length than 38). */
-uint32_t block_scrub(uint16_t *words, uint64_t n);
+/* A block scrubbed in place. It returns the flips, and from bit 8 on the refusal's number (0 none, 2 lost, 3 another length than 38). The
+   pattern is always written, and all zero unless the block is mended. */
+uint32_t block_scrub(uint16_t *words, uint64_t n, uint16_t pattern[38]);
 
 /* The calls on an image return the refusal's number (0 none, 3, 4, 6) from bit 32 on. Below it: for 4 the place of the break, for 3 and 6
    zero, for 0 what is said here. */
@@ -34,8 +37,9 @@ uint32_t block_scrub(uint16_t *words, uint64_t n);
 uint64_t image_check(const uint8_t *image, uint64_t n);
 
 /* Zero. The tallies have ten places: grids, clean, mended, lost and flips of the grids, then the same five of the blocks; with any other
-   length 255 is returned from bit 32 on and nothing is done. */
-uint64_t image_scrub(uint8_t *image, uint64_t n, uint32_t *tallies, uint64_t m);
+   length 255 is returned from bit 32 on and nothing is done. The pattern is that of the last mended grid, in the order of the grids over
+   all fields, 0 if none is mended; where the image is refused it is not touched. */
+uint64_t image_scrub(uint8_t *image, uint64_t n, uint32_t *tallies, uint64_t m, uint64_t *pattern);
 
 /* The bytes written. */
 uint64_t image_write(const uint8_t *title, uint64_t t, const uint16_t *numbers, uint64_t k, uint8_t *image, uint64_t n);

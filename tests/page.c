@@ -1,16 +1,17 @@
 /* The library's page scrub beside the second program's. `page` is called as `flip.h` says; the bits are 0 to 63 in a grid of a page, 64 to
-   95 in a number of its tally. A difference is reported at the number of the page. */
+   95 in a number of its tally, 128 to 191 in the pattern. A difference is reported at the number of the page. */
 #include "draw.h"
 #include "flip.h"
 #include "library.h"
 #include "plain.h"
 #include "second.h"
 
-/* A page and a tally stand in the middle of a room, the rest of which nothing may touch. */
+/* A page, a tally and a pattern each stand in the middle of a room, the rest of which nothing may touch. */
 enum { BEFORE = 3, LONGEST = 600, ROOM = BEFORE + LONGEST + BEFORE, NUMBERS = 5, TALLY_ROOM = BEFORE + NUMBERS + BEFORE };
+enum { PATTERN_ROOM = BEFORE + 1 + BEFORE };
 
 struct state {
-    uint64_t grids[ROOM];
+    uint64_t grids[ROOM], pattern[PATTERN_ROOM];
     uint32_t tally[TALLY_ROOM], returned;
 };
 
@@ -28,6 +29,8 @@ static void draw_state(struct state *s, uint64_t n, struct mix mix)
         s->grids[k] = draw();
     for (unsigned k = 0; k < TALLY_ROOM; k++)
         s->tally[k] = (uint32_t)draw();
+    for (unsigned k = 0; k < PATTERN_ROOM; k++)
+        s->pattern[k] = draw();
     s->returned = 0;
     for (uint64_t k = 0; k < n; k++) {
         uint64_t which = draw() % 16, codeword = second_grid((uint16_t)draw());
@@ -45,16 +48,19 @@ static void compare_states(struct test *t, const struct state *a, const struct s
     compare(t, a->returned, b->returned, at);
     for (unsigned k = 0; k < TALLY_ROOM; k++)
         compare(t, a->tally[k], b->tally[k], at);
+    for (unsigned k = 0; k < PATTERN_ROOM; k++)
+        compare(t, a->pattern[k], b->pattern[k], at);
     for (unsigned k = 0; k < ROOM; k++)
         compare(t, a->grids[k], b->grids[k], at);
 }
 
-/* what is flipped: in the grid of the first page of one, and in the flips of its tally */
-static void flip(struct state *s, uint64_t flips[2])
+/* what is flipped: in the grid of the first page of one, in the flips of its tally, and in its pattern */
+static void flip(struct state *s, uint64_t flips[FLIP_WORDS])
 {
     s->grids[BEFORE] ^= flips[0];
     s->tally[FLIPS] ^= (uint32_t)flips[1];
-    flips[0] = flips[1] = 0;
+    s->pattern[BEFORE] ^= flips[2];
+    flips[0] = flips[1] = flips[2] = 0;
 }
 
 static struct test scrubbed = {.name = "page scrub, 0 to 512 grids"}, again = {.name = "page scrub, a second time"},
@@ -64,9 +70,9 @@ static struct test scrubbed = {.name = "page scrub, 0 to 512 grids"}, again = {.
 static void scrub(struct test *t, struct state *library, uint64_t n, uint64_t at)
 {
     struct state second = *library, plainly = *library;
-    library->returned = page_scrub(library->grids + BEFORE, n, library->tally + BEFORE, NUMBERS);
-    second.returned = second_scrub(second.grids + BEFORE, n, second.tally + BEFORE);
-    plainly.returned = plain_scrub(plainly.grids + BEFORE, n, plainly.tally + BEFORE);
+    library->returned = page_scrub(library->grids + BEFORE, n, library->tally + BEFORE, NUMBERS, library->pattern + BEFORE);
+    second.returned = second_scrub(second.grids + BEFORE, n, second.tally + BEFORE, second.pattern + BEFORE);
+    plainly.returned = plain_scrub(plainly.grids + BEFORE, n, plainly.tally + BEFORE, plainly.pattern + BEFORE);
     compare_states(&plain, &plainly, &second, at);
     struct state shown = *library;
     if (n == 1) {
@@ -95,17 +101,38 @@ static void pages(void)
             scrub(&scrubbed, &once, sizes[s], at);
             compare(&scrubbed, once.returned, 0, at);
 
-            /* a second scrub finds clean + mended clean, the same lost, 0 mended, 0 flips, and alters nothing */
+            /* a second scrub finds clean + mended clean, the same lost, 0 mended, 0 flips, pattern 0, and alters nothing */
             twice = once;
             scrub(&again, &twice, sizes[s], at);
             once.tally[CLEAN] += once.tally[MENDED];
             once.tally[MENDED] = once.tally[FLIPS] = 0;
+            once.pattern[BEFORE] = 0;
             compare_states(&again, &twice, &once, at);
         }
     report_drawn(scrubbed);
     report_drawn(again);
     report_drawn(refused);
-    report_drawn(plain);
+}
+
+/* every order of up to four clean, mended and lost grids: the pattern is what was flipped in the last one that is mended */
+static void last_mended(void)
+{
+    struct test t = {.name = "page scrub, the pattern of the last mended grid"};
+    uint64_t at = 0;
+    for (unsigned n = 0, orders = 1; n <= 4; n++, orders *= 3)
+        for (unsigned order = 0; order < orders; order++, at++) {
+            struct state page;
+            uint64_t last = 0;
+            draw_state(&page, 0, (struct mix){0});
+            for (unsigned k = 0, rest = order; k < n; k++, rest /= 3) {
+                uint64_t flips = draw_places(UINT64_MAX, rest % 3 == 0 ? 0 : rest % 3 == 1 ? 1 + draw() % 7 : 8);
+                page.grids[BEFORE + k] = second_grid((uint16_t)draw()) ^ flips;
+                last = rest % 3 == 1 ? flips : last;
+            }
+            scrub(&t, &page, n, at);
+            compare(&t, page.pattern[BEFORE], last, at);
+        }
+    report_drawn(t);
 }
 
 /* a tally that has not five places is refused by the archive alone, and the table has no number for it */
@@ -119,7 +146,7 @@ static void tallies(void)
         draw_state(&before, 2, (struct mix){.mended = 16});
         after = before;
         before.returned = 255;
-        after.returned = page_scrub(after.grids + BEFORE, 2, after.tally + BEFORE, m);
+        after.returned = page_scrub(after.grids + BEFORE, 2, after.tally + BEFORE, m, after.pattern + BEFORE);
         compare_states(&t, &after, &before, m);
     }
     report_drawn(t);
@@ -128,7 +155,9 @@ static void tallies(void)
 static void all(void)
 {
     pages();
+    last_mended();
     tallies();
+    report_drawn(plain);
 }
 
 int main(int n, char **words)

@@ -114,30 +114,37 @@ static uint64_t mend(uint64_t word, uint64_t *repaired)
     return v == LOST && odd != 0 ? trial(word, word ^ flips, any, repaired) : v;
 }
 
-void plain_decode(const uint64_t *words, uint64_t n, uint64_t *verdicts, uint64_t *repaired)
+/* The repaired grid of a lost word is the word, which makes its pattern 0. */
+void plain_decode(const uint64_t *words, uint64_t n, uint64_t *verdicts, uint64_t *repaired, uint64_t *patterns)
 {
     for (uint64_t k = 0; k < n; k++)
         if (encode_again(words[k]) == words[k]) {
             verdicts[k] = verdict(words[k], 0);
             repaired[k] = words[k];
+            patterns[k] = 0;
         } else {
             verdicts[k] = mend(words[k], &repaired[k]);
+            patterns[k] = words[k] ^ repaired[k];
         }
 }
 
-void plain_scrub_bytes(uint8_t *grids, uint64_t n, uint32_t tally[5])
+void plain_scrub_bytes(uint8_t *grids, uint64_t n, uint32_t tally[5], uint64_t *pattern)
 {
     uint32_t clean = 0, lost = 0, flips = 0;
     for (uint64_t k = 0; k < n; k++) {
-        uint64_t word;
+        uint64_t word, repaired;
         __builtin_memcpy(&word, grids + 8 * k, sizeof word);
         if (encode_again(word) == word) {
             clean++;
+            continue;
+        }
+        uint64_t v = mend(word, &repaired);
+        if (v == LOST) {
+            lost++;
         } else {
-            uint64_t v = mend(word, &word);
-            __builtin_memcpy(grids + 8 * k, &word, sizeof word);
-            lost += v == LOST;
-            flips += v >> 16 & 255;
+            flips += v >> 16;
+            *pattern = word ^ repaired;
+            __builtin_memcpy(grids + 8 * k, &repaired, sizeof repaired);
         }
     }
     tally[0] += (uint32_t)n;
@@ -171,12 +178,13 @@ void plain_decode_bytes(const uint8_t *grids, uint64_t n, uint16_t *data, uint8_
     }
 }
 
-uint32_t plain_scrub(uint64_t *page, uint64_t n, uint32_t tally[5])
+uint32_t plain_scrub(uint64_t *page, uint64_t n, uint32_t tally[5], uint64_t *pattern)
 {
     if (n > LONGEST_PAGE)
         return LENGTH_NOT_ALLOWED;
     for (unsigned k = 0; k < 5; k++)
         tally[k] = 0;
-    plain_scrub_bytes((uint8_t *)page, n, tally);
+    *pattern = 0;
+    plain_scrub_bytes((uint8_t *)page, n, tally, pattern);
     return 0;
 }

@@ -27,6 +27,17 @@ static inline struct checks checks_of(const uint16_t *words)
     return (struct checks){rows | (uint64_t)columns << 32, diagonals | (uint64_t)parity(columns) << 47};
 }
 
+/* The checks as the words behind the data. */
+static inline void put_checks(uint16_t *words, struct checks s)
+{
+    words[32] = (uint16_t)s.lines;
+    words[33] = (uint16_t)(s.lines >> 16);
+    words[34] = (uint16_t)(s.lines >> 32);
+    words[35] = (uint16_t)s.diagonals;
+    words[36] = (uint16_t)(s.diagonals >> 16);
+    words[37] = (uint16_t)(s.diagonals >> 32);
+}
+
 uint32_t plain_block_encode(const uint16_t *values, uint64_t n, uint16_t *words, uint64_t m)
 {
     if (n != ROWS || m != WORDS)
@@ -34,28 +45,13 @@ uint32_t plain_block_encode(const uint16_t *values, uint64_t n, uint16_t *words,
     struct checks s = checks_of(values);
     for (unsigned r = 0; r < ROWS; r++)
         words[r] = values[r];
-    words[32] = (uint16_t)s.lines;
-    words[33] = (uint16_t)(s.lines >> 16);
-    words[34] = (uint16_t)(s.lines >> 32);
-    words[35] = (uint16_t)s.diagonals;
-    words[36] = (uint16_t)(s.diagonals >> 16);
-    words[37] = (uint16_t)(s.diagonals >> 32);
+    put_checks(words, s);
     return 0;
 }
 
-static inline void flip_checks(uint16_t *words, struct checks s)
+static inline void flip_data(uint16_t *pattern, unsigned r, unsigned c)
 {
-    words[32] ^= (uint16_t)s.lines;
-    words[33] ^= (uint16_t)(s.lines >> 16);
-    words[34] ^= (uint16_t)(s.lines >> 32);
-    words[35] ^= (uint16_t)s.diagonals;
-    words[36] ^= (uint16_t)(s.diagonals >> 16);
-    words[37] ^= (uint16_t)(s.diagonals >> 32);
-}
-
-static inline void flip_data(uint16_t *words, unsigned r, unsigned c)
-{
-    words[r] ^= (uint16_t)(1 << c);
+    pattern[r] ^= (uint16_t)(1 << c);
 }
 
 /* The lowest row, column and diagonal; 32, 16 and 48 if there is none. */
@@ -82,17 +78,17 @@ static inline struct checks without(struct checks s, unsigned r, unsigned c)
     return s;
 }
 
-/* The flips, if this data place is one of at most two, and then they are undone; 0 if it is not, or if there is no such place. The other
-   one is the check that remains, or the data place in the lowest row and column that remain. */
-static inline uint32_t guess(uint16_t *words, struct checks s, unsigned r, unsigned c)
+/* The flips, if this data place is one of at most two, and then they are put into the pattern, which is 0 so far; 0 if it is not, or if
+   there is no such place. The other one is the check that remains, or the data place in the lowest row and column that remain. */
+static inline uint32_t guess(uint16_t *pattern, struct checks s, unsigned r, unsigned c)
 {
     if (r >= ROWS || c >= COLUMNS)
         return 0;
     struct checks rest = without(s, r, c);
     uint64_t any = rest.lines | rest.diagonals;
     if ((rest.lines == 0 || rest.diagonals == 0) && (any & (any - 1)) == 0) {
-        flip_data(words, r, c);
-        flip_checks(words, rest);
+        flip_data(pattern, r, c);
+        put_checks(pattern, rest);
         return any == 0 ? 1 : 2;
     }
 
@@ -102,38 +98,46 @@ static inline uint32_t guess(uint16_t *words, struct checks s, unsigned r, unsig
     rest = without(rest, row, column);
     if ((rest.lines | rest.diagonals) != 0)
         return 0;
-    flip_data(words, r, c);
-    flip_data(words, row, column);
+    flip_data(pattern, r, c);
+    flip_data(pattern, row, column);
     return 2;
 }
 
 /* Of at most two flips, not all of them checks, one is the data place in the lowest row and column, in the lowest row and diagonal, in the
    lowest column and diagonal, or in the lowest row and the second column. */
-static uint32_t mend(uint16_t *words, struct checks s)
+static uint32_t mend(uint16_t *pattern, struct checks s)
 {
     uint32_t flips = (uint32_t)(__builtin_popcountll(s.lines) + __builtin_popcountll(s.diagonals));
     if (flips <= 2) {
-        flip_checks(words, s);
+        put_checks(pattern, s);
         return flips;
     }
 
     unsigned r = row_in(s.lines), c = column_in(s.lines), t = diagonal_in(s.diagonals);
-    flips = guess(words, s, r, c);
+    flips = guess(pattern, s, r, c);
     if (flips == 0)
-        flips = guess(words, s, r, t - r);
+        flips = guess(pattern, s, r, t - r);
     if (flips == 0)
-        flips = guess(words, s, t - c, c);
+        flips = guess(pattern, s, t - c, c);
     if (flips == 0)
-        flips = guess(words, s, r, column_in(s.lines ^ (uint64_t)1 << 32 << c));
+        flips = guess(pattern, s, r, column_in(s.lines ^ (uint64_t)1 << 32 << c));
     return flips != 0 ? flips : LOST;
 }
 
-uint32_t plain_block_scrub(uint16_t *words, uint64_t n)
+uint32_t plain_block_scrub(uint16_t *restrict words, uint64_t n, uint16_t pattern[restrict WORDS])
 {
+    for (unsigned r = 0; r < WORDS; r++)
+        pattern[r] = 0;
     if (n != WORDS)
         return REFUSED;
     struct checks s = checks_of(words);
     s.lines ^= words[32] | (uint64_t)words[33] << 16 | (uint64_t)words[34] << 32;
     s.diagonals ^= words[35] | (uint64_t)words[36] << 16 | (uint64_t)words[37] << 32;
-    return (s.lines | s.diagonals) == 0 ? 0 : mend(words, s);
+    if ((s.lines | s.diagonals) == 0)
+        return 0;
+    uint32_t flips = mend(pattern, s);
+    if (flips != LOST)
+        for (unsigned r = 0; r < WORDS; r++)
+            words[r] ^= pattern[r];
+    return flips;
 }

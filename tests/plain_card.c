@@ -65,9 +65,9 @@ uint64_t plain_image_check(const uint8_t *image, uint64_t n)
 /* The words are loaded and stored as they stand, low byte first. */
 static void scrub_block(uint8_t *bytes, uint32_t tally[5])
 {
-    uint16_t words[BLOCK_WORDS];
+    uint16_t words[BLOCK_WORDS], pattern[BLOCK_WORDS];
     __builtin_memcpy(words, bytes, BLOCK_BYTES);
-    uint32_t flips = plain_block_scrub(words, BLOCK_WORDS);
+    uint32_t flips = plain_block_scrub(words, BLOCK_WORDS, pattern);
     tally[0]++;
     if (flips == 0) {
         tally[1]++;
@@ -80,16 +80,17 @@ static void scrub_block(uint8_t *bytes, uint32_t tally[5])
     }
 }
 
-uint64_t plain_image_scrub(uint8_t *image, uint64_t n, uint32_t tallies[10])
+uint64_t plain_image_scrub(uint8_t *image, uint64_t n, uint32_t tallies[10], uint64_t *pattern)
 {
     uint64_t checked = plain_image_check(image, n);
     if (is_refusal(checked))
         return checked;
     for (unsigned k = 0; k < 10; k++)
         tallies[k] = 0;
+    *pattern = 0;
     for (uint8_t *field = image; *field != END; field += HEAD + length_at(field))
         if (*field == GRIDS)
-            plain_scrub_bytes(field + HEAD, length_at(field) / GRID_BYTES, tallies);
+            plain_scrub_bytes(field + HEAD, length_at(field) / GRID_BYTES, tallies, pattern);
         else if (*field == BLOCK)
             scrub_block(field + HEAD, tallies + 5);
     return 0;

@@ -1,11 +1,13 @@
-/* The slices that are lent to a call on an image stand one behind the other in one room. Around each are bytes that nothing may touch. */
+/* What is lent to a call on an image stands one behind the other in one room: the pattern, then the slices. Around each are bytes that
+   nothing may touch. */
 #pragma once
 #include "draw.h"
+#include "flip.h"
 
 void *memcpy(void *, const void *, unsigned long);
 int memcmp(const void *, const void *, unsigned long);
 
-enum { AROUND = 12, ROOM = 65536, TALLIES = 10 };
+enum { AROUND = 16, ROOM = 65536, TALLIES = 10 };
 
 /* how many places each slice has, in the order in which they stand */
 struct lengths {
@@ -18,14 +20,19 @@ struct state {
     _Alignas(uint64_t) uint8_t room[ROOM];
 };
 
+static inline uint64_t *pattern_in(struct state *s)
+{
+    return (uint64_t *)(s->room + AROUND);
+}
+
 static inline uint32_t *tallies_in(struct state *s)
 {
-    return (uint32_t *)(s->room + AROUND);
+    return (uint32_t *)((uint8_t *)(pattern_in(s) + 1) + AROUND);
 }
 
 static inline uint16_t *data_in(struct state *s)
 {
-    return (uint16_t *)(s->room + 2 * AROUND + s->lengths.tallies * sizeof(uint32_t));
+    return (uint16_t *)((uint8_t *)(tallies_in(s) + s->lengths.tallies) + AROUND);
 }
 
 static inline uint8_t *flips_in(struct state *s)
@@ -67,11 +74,12 @@ static inline void compare_states(struct test *t, const struct state *a, const s
     compare(t, memcmp(a->room, b->room, a->used) == 0, 1, at);
 }
 
-/* what is flipped, once: in the number returned, and in the first bytes of the image */
-static inline void flip(struct state *s, uint64_t flips[2])
+/* what is flipped, once: in the number returned, in the first bytes of the image, and in the pattern */
+static inline void flip(struct state *s, uint64_t flips[FLIP_WORDS])
 {
     s->returned ^= flips[0];
     for (unsigned k = 0; k < 8 && flips[1] != 0; k++)
         image_in(s)[k] ^= (uint8_t)(flips[1] >> 8 * k);
-    flips[0] = flips[1] = 0;
+    *pattern_in(s) ^= flips[2];
+    flips[0] = flips[1] = flips[2] = 0;
 }

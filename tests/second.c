@@ -1,5 +1,6 @@
 /* The second program's grid and page. The rules (docs/FORMAT.md) stand above what they say. */
 #include "second.h"
+#include "second_pattern.h"
 
 int printf(const char *, ...);
 void exit(int);
@@ -107,7 +108,7 @@ struct answer second_decode(uint64_t word)
     for (unsigned d = 0; d < VALUES; d++)
         n = counts[d] < n ? counts[d] : n;
 
-    /* If n is over the radius: lost. On refusal the grid as read. */
+    /* If n is over the radius: lost. On refusal the grid as read, and no flips. */
     if (n > second_radius)
         return (struct answer){.number = LOST, .repaired = word};
 
@@ -118,18 +119,21 @@ struct answer second_decode(uint64_t word)
         exit(1);
     }
 
-    /* Otherwise the codeword is the answer: clean if n = 0, mended with n flips if not. */
+    /* Otherwise the codeword is the answer: clean if n = 0, mended with n flips if not, which are the places that differ from it. */
     uint16_t data = (uint16_t)(one - counts);
-    return (struct answer){.data = data, .flips = n, .repaired = second_grid(data)};
+    uint64_t codeword = second_grid(data);
+    return (struct answer){.data = data, .flips = n, .repaired = codeword, .pattern = second_pattern(word, codeword)};
 }
 
-uint32_t second_scrub(uint64_t *page, uint64_t n, uint32_t tally[5])
+uint32_t second_scrub(uint64_t *page, uint64_t n, uint32_t tally[5], uint64_t *pattern)
 {
     /* Page: 0 to 512 grids. A length not allowed: nothing written. */
     if (n > LONGEST_PAGE)
         return LENGTH_NOT_ALLOWED;
 
-    /* Each mended grid is replaced by its codeword; clean and lost grids are kept. Flips is the sum over mended grids. */
+    /* Each mended grid is replaced by its codeword; clean and lost grids are kept. Flips is the sum over mended grids, and the pattern that
+       of the last one. */
+    *pattern = 0;
     uint32_t clean = 0, mended = 0, lost = 0, flips = 0;
     for (uint64_t k = 0; k < n; k++) {
         struct answer a = second_decode(page[k]);
@@ -141,6 +145,7 @@ uint32_t second_scrub(uint64_t *page, uint64_t n, uint32_t tally[5])
             mended++;
             flips += a.flips;
             page[k] = a.repaired;
+            *pattern = a.pattern;
         }
     }
     tally[0] = (uint32_t)n;

@@ -11,11 +11,11 @@ unsigned second_distance(uint64_t a, uint64_t b);
 /* In how many places a word differs from the codeword of each of the 65,536 data values. They stand until the next call. */
 const uint8_t *second_counts(uint64_t word);
 
-/* What a word read gives: the refusal's number (0 where nothing is refused, 1 lost), the data and the flips (both 0 on refusal), and the
-   repaired grid. */
+/* What a word read gives: the refusal's number (0 where nothing is refused, 1 lost), the data and the flips (both 0 on refusal), the
+   repaired grid, and the pattern of the flips (0 unless mended). */
 struct answer {
     uint32_t number, data, flips;
-    uint64_t repaired;
+    uint64_t repaired, pattern;
 };
 
 /* The answer by the definition: every codeword is looked at. Where two are nearest, within the radius, it prints a line that begins with
@@ -25,5 +25,6 @@ struct answer second_decode(uint64_t word);
 /* 7. `ties` sets it to 8, to see that a tie is found: two codewords may be 16 places apart. */
 extern unsigned second_radius;
 
-/* A page scrub. It returns the refusal's number, 3, or 0 if there is none; the tally is grids, clean, mended, lost and flips. */
-uint32_t second_scrub(uint64_t *page, uint64_t n, uint32_t tally[5]);
+/* A page scrub. It returns the refusal's number, 3, or 0 if there is none; the tally is grids, clean, mended, lost and flips, the pattern
+   that of the last mended grid, 0 if there is none. On refusal nothing is written. */
+uint32_t second_scrub(uint64_t *page, uint64_t n, uint32_t tally[5], uint64_t *pattern);

@@ -1,9 +1,11 @@
 /* The second program's block. The rules (docs/FORMAT.md) stand above what they say. */
 #include "second_block.h"
+#include "second_pattern.h"
 
 int printf(const char *, ...);
 void exit(int);
 int memcmp(const void *, const void *, unsigned long);
+void *memcpy(void *, const void *, unsigned long);
 void qsort(void *, unsigned long, unsigned long, int (*)(const void *, const void *));
 
 enum { DATA = 32, CHECKS = 6, WORDS = DATA + CHECKS, BITS = 16, PLACES = WORDS * BITS, PATTERNS = PLACES + PLACES * (PLACES - 1) / 2 };
@@ -166,10 +168,17 @@ struct block_answer second_block_scrub(uint16_t *words, uint64_t n)
         exit(1);
     }
 
-    /* Otherwise the codeword is the answer, and afterwards the 38 words are the codeword. */
+    /* Otherwise the codeword is the answer, and afterwards the 38 words are the codeword. The places that differ from it are the flips. */
+    uint16_t codeword[WORDS];
+    memcpy(codeword, words, sizeof codeword);
     for (unsigned k = 0; k < one->flips; k++)
-        flip(words, one->places[k]);
-    return (struct block_answer){.flips = one->flips};
+        flip(codeword, one->places[k]);
+    struct block_answer a = {.flips = one->flips};
+    for (unsigned r = 0; r < WORDS; r++) {
+        a.pattern[r] = (uint16_t)second_pattern(words[r], codeword[r]);
+        words[r] = codeword[r];
+    }
+    return a;
 }
 
 uint32_t second_block_syndromes(void)

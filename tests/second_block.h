@@ -8,9 +8,11 @@ void second_block(const uint16_t values[32], uint16_t words[38]);
 /* The same for slices of any length. It returns the refusal's number, 3, or 0 if there is none. */
 uint32_t second_block_encode(const uint16_t *values, uint64_t n, uint16_t *words, uint64_t m);
 
-/* What a scrub returns: the refusal's number (0 where nothing is refused, 2 lost, 3 a length not allowed) and the flips (0 on refusal). */
+/* What a scrub returns: the refusal's number (0 where nothing is refused, 2 lost, 3 a length not allowed), the flips (0 on refusal), and
+   their pattern (0 unless mended). */
 struct block_answer {
     uint32_t number, flips;
+    uint16_t pattern[38];
 };
 
 /* A block scrub by the definition: every pattern of up to two flips is in a table. Where two codewords are nearest, within the radius, it

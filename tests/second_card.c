@@ -144,11 +144,14 @@ static void count(uint32_t tally[5], uint32_t number, uint32_t flips)
     tally[4] += flips;
 }
 
-static void scrub_grid(uint8_t *rows, uint32_t tally[5])
+/* The pattern stays as it is unless the grid is mended. */
+static void scrub_grid(uint8_t *rows, uint32_t tally[5], uint64_t *pattern)
 {
     struct answer a = decode(load_grid(rows));
     store_grid(rows, a.repaired);
     count(tally, a.number, a.flips);
+    if (a.number == 0 && a.flips != 0)
+        *pattern = a.pattern;
 }
 
 /* Words in order, low byte first. */
@@ -165,18 +168,19 @@ static void scrub_block(uint8_t *bytes, uint32_t tally[5])
     count(tally, a.number, a.flips);
 }
 
-struct image_answer second_image_scrub(uint8_t *image, uint64_t n, uint32_t tallies[10])
+struct image_answer second_image_scrub(uint8_t *image, uint64_t n, uint32_t tallies[10], uint64_t *pattern)
 {
     struct image_answer a = look(image, n);
     if (a.number != 0)
         return a;
 
-    /* It works on the value of each data field; all else stays. */
+    /* It works on the value of each data field; all else stays. The pattern is that of the last mended grid over all fields. */
     for (unsigned k = 0; k < 10; k++)
         tallies[k] = 0;
+    *pattern = 0;
     for (struct field f = field_at(image, 0); f.tag != END; f = field_at(image, f.next)) {
         for (uint32_t k = 0; f.tag == GRIDS && k < f.length; k += GRID_BYTES)
-            scrub_grid(image + f.value + k, tallies);
+            scrub_grid(image + f.value + k, tallies, pattern);
         if (f.tag == BLOCK)
             scrub_block(image + f.value, tallies + 5);
     }
@@ -242,7 +246,8 @@ struct image_answer second_image_read(const uint8_t *image, uint64_t n, uint8_t 
 void second_bench(uint8_t *image, uint64_t n, char text[BENCH_TEXT])
 {
     uint32_t tallies[10];
-    struct image_answer a = second_image_scrub(image, n, tallies);
+    uint64_t pattern;
+    struct image_answer a = second_image_scrub(image, n, tallies, &pattern);
     if (a.number == BROKEN)
         snprintf(text, BENCH_TEXT, "refused 4 at %u\n", a.place);
     else if (a.number != 0)

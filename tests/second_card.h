@@ -12,8 +12,9 @@ struct image_answer {
 /* It tells the grids and the blocks. */
 struct image_answer second_image_check(const uint8_t *image, uint64_t n);
 
-/* Ten numbers: grids, clean, mended, lost and flips of the grids, then the same five of the blocks. On refusal nothing is written. */
-struct image_answer second_image_scrub(uint8_t *image, uint64_t n, uint32_t tallies[10]);
+/* Ten numbers: grids, clean, mended, lost and flips of the grids, then the same five of the blocks; and the pattern of the last mended
+   grid, 0 if there is none. On refusal nothing is written. */
+struct image_answer second_image_scrub(uint8_t *image, uint64_t n, uint32_t tallies[10], uint64_t *pattern);
 
 /* It tells the bytes written. */
 struct image_answer second_image_write(const uint8_t *title, uint64_t t, const uint16_t *numbers, uint64_t k, uint8_t *image, uint64_t n);

@@ -16,10 +16,10 @@ enum { WORDS = 1000, PAGE = 500, NUMBERS = 5, BLOCKS = 200, BLOCK_DATA = 32, BLO
 enum { GRID_LOST = 1 << 8, BLOCK_LOST = 2 << 8 };
 
 /* what is decoded and scrubbed, and the answers */
-static uint64_t words[WORDS], verdicts[WORDS], repaired[WORDS];
+static uint64_t words[WORDS], verdicts[WORDS], repaired[WORDS], patterns[WORDS];
 static struct block {
     uint16_t words[BLOCK_WORDS];
-} blocks[BLOCKS], block;
+} blocks[BLOCKS], block, block_pattern;
 
 /* the places that are flipped in every grid */
 static uint64_t flips;
@@ -39,25 +39,25 @@ static void plain_encoding(uint32_t n)
 static void library_decoding(uint32_t n)
 {
     for (; n >= WORDS; n -= WORDS)
-        grid_decode(words, WORDS, verdicts, WORDS, repaired, WORDS);
+        grid_decode(words, WORDS, verdicts, WORDS, repaired, WORDS, patterns, WORDS);
 }
 
 static void plain_decoding(uint32_t n)
 {
     for (; n >= WORDS; n -= WORDS)
-        plain_decode(words, WORDS, verdicts, repaired);
+        plain_decode(words, WORDS, verdicts, repaired, patterns);
 }
 
 static void library_scrubbing(uint32_t n)
 {
     for (; n >= PAGE; n -= PAGE)
-        page_scrub(words, PAGE, tally, NUMBERS);
+        page_scrub(words, PAGE, tally, NUMBERS, &pattern);
 }
 
 static void plain_scrubbing(uint32_t n)
 {
     for (; n >= PAGE; n -= PAGE)
-        plain_scrub(words, PAGE, tally);
+        plain_scrub(words, PAGE, tally, &pattern);
 }
 
 static void library_block_encoding(uint32_t n)
@@ -80,7 +80,7 @@ static void library_block_scrubbing(uint32_t n)
     for (; n >= BLOCKS; n -= BLOCKS)
         for (uint32_t k = 0; k < BLOCKS; k++) {
             block = blocks[k];
-            returned += block_scrub(block.words, BLOCK_WORDS);
+            returned += block_scrub(block.words, BLOCK_WORDS, block_pattern.words);
         }
 }
 
@@ -89,7 +89,7 @@ static void plain_block_scrubbing(uint32_t n)
     for (; n >= BLOCKS; n -= BLOCKS)
         for (uint32_t k = 0; k < BLOCKS; k++) {
             block = blocks[k];
-            returned += plain_block_scrub(block.words, BLOCK_WORDS);
+            returned += plain_block_scrub(block.words, BLOCK_WORDS, block_pattern.words);
         }
 }
 

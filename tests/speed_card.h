@@ -22,8 +22,9 @@ static uint32_t image_bytes, image_grids;
 static uint16_t numbers[WRITTEN_NUMBERS], read_numbers[WRITTEN_NUMBERS];
 static uint8_t read_title[TITLE_BYTES], read_flips[WRITTEN_NUMBERS];
 
-/* the tallies of a scrub, and the sum of what the calls returned */
+/* the tallies and the pattern of a scrub, and the sum of what the calls returned */
 static uint32_t tally[TALLIES], returned;
+static uint64_t pattern;
 
 static uint16_t value(uint32_t k)
 {
@@ -84,13 +85,13 @@ static void prepare_written(void)
 static void library_image_scrubbing(uint32_t n)
 {
     for (; n >= IMAGE_GRIDS; n -= IMAGE_GRIDS)
-        returned += (uint32_t)(image_scrub(image, image_bytes, tally, TALLIES) >> 32);
+        returned += (uint32_t)(image_scrub(image, image_bytes, tally, TALLIES, &pattern) >> 32);
 }
 
 static void plain_image_scrubbing(uint32_t n)
 {
     for (; n >= IMAGE_GRIDS; n -= IMAGE_GRIDS)
-        returned += (uint32_t)(plain_image_scrub(image, image_bytes, tally) >> 32);
+        returned += (uint32_t)(plain_image_scrub(image, image_bytes, tally, &pattern) >> 32);
 }
 
 static void library_image_checking(uint32_t n)

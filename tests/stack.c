@@ -23,10 +23,13 @@ static const struct {
 enum { KINDS = sizeof kinds / sizeof *kinds };
 
 /* what the calls write to */
-static uint64_t verdicts[PAGE], repaired[PAGE];
+static uint64_t verdicts[PAGE], repaired[PAGE], patterns[PAGE];
 static uint32_t tallies[TALLIES];
-static uint16_t data[MOST_GRIDS];
+static uint16_t data[MOST_GRIDS], block_pattern[BLOCK_WORDS];
 static uint8_t title[LONGEST_TITLE + 1], flips[MOST_GRIDS];
+
+/* whether the plain version is called, which is not told the lengths of what it decodes to, nor of its tallies */
+static int plain_side;
 
 static void encode_grids(struct test *t)
 {
@@ -45,15 +48,23 @@ static void draw_page(uint64_t page[PAGE + 1], unsigned round)
 
 static void decode_grids(struct test *t)
 {
-    const uint64_t library[ARGUMENTS] = {address(room), PAGE, address(verdicts), PAGE, address(repaired), PAGE};
-    const uint64_t plain[ARGUMENTS] = {address(room), PAGE, address(verdicts), address(repaired)};
+    const uint64_t library[ARGUMENTS] = {address(room), PAGE, address(verdicts), PAGE, address(repaired), PAGE, address(patterns), PAGE};
+    const uint64_t plain[ARGUMENTS] = {address(room), PAGE, address(verdicts), address(repaired), address(patterns)};
     uint64_t words[PAGE + 1];
     for (unsigned round = 0; round < ROUNDS; round++) {
         draw_page(words, round);
-        make_call(t, words, sizeof words, called == (function *)plain_decode ? plain : library, 0);
+        make_call(t, words, sizeof words, plain_side ? plain : library, 0);
         if (round < KINDS)
             compare(t, verdicts[PAGE - 1] >> 16, kinds[round].verdict, t->compared);
     }
+}
+
+/* the scrub of n grids, or of n bytes of an image */
+static void scrub(struct test *t, const void *bytes, uint64_t size, uint64_t n, uint64_t numbers, uint64_t expected)
+{
+    const uint64_t library[ARGUMENTS] = {address(room), n, address(tallies), numbers, address(patterns)};
+    const uint64_t plain[ARGUMENTS] = {address(room), n, address(tallies), address(patterns)};
+    make_call(t, bytes, size, plain_side ? plain : library, expected);
 }
 
 static void scrub_pages(struct test *t)
@@ -63,8 +74,7 @@ static void scrub_pages(struct test *t)
     for (unsigned round = 0; round < ROUNDS; round++)
         for (unsigned k = 0; k < sizeof lengths / sizeof *lengths; k++) {
             draw_page(page, round);
-            make_call(t, page, sizeof page, (uint64_t[ARGUMENTS]){address(room), lengths[k], address(tallies), NUMBERS},
-                      lengths[k] > PAGE ? LENGTH_NOT_ALLOWED : 0);
+            scrub(t, page, sizeof page, lengths[k], NUMBERS, lengths[k] > PAGE ? LENGTH_NOT_ALLOWED : 0);
         }
 }
 
@@ -89,7 +99,8 @@ static void scrub_block(struct test *t, const uint16_t words[BLOCK_WORDS], uint6
 {
     uint16_t scrubbed[BLOCK_WORDS];
     memcpy(scrubbed, words, sizeof scrubbed);
-    make_call(t, words, sizeof scrubbed, (uint64_t[ARGUMENTS]){address(room), n}, scrub_number(second_block_scrub(scrubbed, n)));
+    make_call(t, words, sizeof scrubbed, (uint64_t[ARGUMENTS]){address(room), n, address(block_pattern)},
+              scrub_number(second_block_scrub(scrubbed, n)));
 }
 
 /* clean, every flip, further flips up to four, any words, and a length that is not allowed */
@@ -154,7 +165,7 @@ static void check_image(struct test *t, struct image *im)
 static void scrub_image(struct test *t, struct image *im)
 {
     struct image_answer a = second_image_check(im->bytes, im->n);
-    make_call(t, im->bytes, im->n, (uint64_t[ARGUMENTS]){address(room), im->n, address(tallies), TALLIES}, image_number(a, 0));
+    scrub(t, im->bytes, im->n, im->n, TALLIES, image_number(a, 0));
 }
 
 /* with rooms that are long enough, and with none for the title */
@@ -229,6 +240,7 @@ int main(int n, char **words)
     }
     for (unsigned o = 0; (library || plain) && o < sizeof operations / sizeof *operations; o++)
         if (strcmp(words[2], operations[o].name) == 0) {
+            plain_side = plain;
             called = library ? operations[o].library : operations[o].plain;
             compared_bits = operations[o].returned;
             paint();

@@ -6,18 +6,18 @@ use mathlib.Core.List.{List}
 use Prim.Native.Nat.{ℕ, _^_, _≤_, _<_}
 use native.Mathlib.Decide.{ℕ-discrete}
 use native.Mathlib.Omega.{arith}
-use lib.Bits.{bitXor, xor-lt}
+use lib.Bits.{bitXor, xor-lt, xor-self}
 use lib.Count.{ones}
 use lib.Dec.{eqb, lit<}
-use lib.ListN.{length, take}
+use lib.ListN.{length, take, replicate}
 use borrow.Author.Tests.{eq-eqb, ne-eqb}
 use Rattle.words.specs.Word.{choose, dist}
 use Rattle.words.specs.Digits.{digits, joined, Below}
-use Rattle.words.proofs.Digits.{length-digits, take-digits, joined-digits, joined-lt, digits-joined}
+use Rattle.words.proofs.Digits.{length-digits, digits-below, take-digits, joined-digits, joined-lt, digits-joined}
 use Rattle.refusals.specs.declared.Refusal.the-variants.{LostBlock, Length}
 use Rattle.refusals.specs.Reply.{gives, refuses}
 use Rattle.refusals.proofs.Promises.{nothing-given}
-use Rattle.codes.specs.Verdict.{Verdict, clean, mended, lost, answered, replied, flipsOf, verdict, repaired, scrubbed}
+use Rattle.codes.specs.Verdict.{Verdict, clean, mended, lost, answered, replied, flipsOf, verdict, repaired, scrubbed, patternOf}
 use Rattle.codes.specs.Tally.{tallyOfOne, Again}
 use Rattle.codes.proofs.Promises.{found, none-near, answered-given, answered-repaired}
 use Rattle.codes.proofs.Tally.{given-or-lost, given-is, as-it-was, scrubbed-lt, tallies, in-range, again-one, codeword-now}
@@ -31,8 +31,7 @@ use Rattle.block.specs.Calls.{Encoded, Scrubbed}
 use Rattle.block.specs.Promises.{EncodePromises, ScrubPromises, OneOutcome}
 use Rattle.block.specs.declared.EncodeAnswer.{EncodeAnswer}
 use Rattle.block.specs.declared.EncodeAnswer.the-variants.{Done as Written, Refused as NotWritten}
-use Rattle.block.specs.declared.BlockAnswer.{BlockAnswer}
-use Rattle.block.specs.declared.BlockAnswer.the-variants.{Refused}
+use Rattle.block.specs.declared.Scrub.{Scrub}
 use Rattle.block.proofs.Outcomes.{block-lt, back, is-allowed, not-allowed}
 
 -- ---- the encoder
@@ -100,107 +99,145 @@ means-verdict w (mended d n) e =
     ap (λ (x : ℕ). gives (mended x n)) (data-back d (in-range blockCode (promised .verdicts) w (mended d n) e d n (refl, refl) .0))
 means-verdict w lost e = refl
 
-module _ (ws exit : List ℕ) (r : BlockAnswer) (h : Scrubbed ws r exit) where
+module _ (ws exit : List ℕ) (r : Scrub) (h : Scrubbed ws r exit) where
   abbrev word : ℕ
   word = joined 16 ws
 
-  by : (t : Bool) → eqb (length ws) 38 ≡ t
-      → (r ≡ choose t (answerOf (verdict blockCode word)) (Refused Length)) × (exit ≡ choose t (digits 16 38 (scrubbed blockCode word)) ws)
-  by t e = (
-    h .answer ∙ ap (λ (t : Bool). choose t (answerOf (verdict blockCode word)) (Refused Length)) e,
-    h .after ∙ ap {B = List ℕ} (λ (t : Bool). choose t (digits 16 38 (scrubbed blockCode word)) ws) e,
-  )
-
-  other-length : length ws ≢ 38 → (means r exit ≡ refuses 3) × (exit ≡ ws)
-  other-length ne = let (a, x) = by false (ne-eqb (length ws) 38 ne) in (ap (λ a. means a exit) a, x)
+  other-length : length ws ≢ 38 → (means (r .answer) exit ≡ refuses 3) × (exit ≡ ws)
+  other-length ne = let no = ne-eqb (length ws) 38 ne in (ap (λ a. means a exit) (rw no at (h .answer)), rw no at (h .after))
 
   -- a block that is known with its verdict
   of-word : length ws ≡ 38 → (w : ℕ) (v : Verdict) → word ≡ w → verdict blockCode w ≡ v
-      → (means r exit ≡ replied LostBlock v) × (exit ≡ digits 16 38 (repaired blockCode w v))
+      → (means (r .answer) exit ≡ replied LostBlock v) × (exit ≡ digits 16 38 (repaired blockCode w v))
   of-word n w v e p =
-      let (a, x) = by true (eq-eqb (length ws) 38 n) in
+      let yes = eq-eqb (length ws) 38 n in
       let q : verdict blockCode word ≡ v = ap (verdict blockCode) e ∙ p in
       let y : exit ≡ digits 16 38 (repaired blockCode w v) =
-      x ∙ ap (λ (w : ℕ). digits 16 38 (scrubbed blockCode w)) e ∙ ap (λ v. digits 16 38 (repaired blockCode w v)) p in
-      (ap (λ a. means a exit) (a ∙ ap answerOf q) ∙ ap (means (answerOf v)) y ∙ means-verdict w v p, y)
+      rw yes at (h .after) ∙ ap (λ (w : ℕ). digits 16 38 (scrubbed blockCode w)) e ∙ ap (λ v. digits 16 38 (repaired blockCode w v)) p in
+      (ap (λ a. means a exit) (rw yes at (h .answer) ∙ ap answerOf q) ∙ ap (means (answerOf v)) y ∙ means-verdict w v p, y)
 
-  its-verdict : length ws ≡ 38 → (means r exit ≡ replied LostBlock (verdict blockCode word)) × (exit ≡ digits 16 38 (scrubbed blockCode word))
+  its-verdict : length ws ≡ 38
+      → (means (r .answer) exit ≡ replied LostBlock (verdict blockCode word)) × (exit ≡ digits 16 38 (scrubbed blockCode word))
   its-verdict n = of-word n word (verdict blockCode word) refl refl
 
   -- where a verdict is given, the length is right
-  long-enough : (v : Verdict) → means r exit ≡ gives v → length ws ≡ 38
+  long-enough : (v : Verdict) → means (r .answer) exit ≡ gives v → length ws ≡ 38
   long-enough v e = go (ℕ-discrete (length ws) 38)
     where
       go : Dec (length ws ≡ 38) → length ws ≡ 38
       go (yes n) = n
       go (no n) = nothing-given Length (sym (other-length n .0) ∙ e)
 
-  numbers : length ws ≡ 38 → ((v : Verdict) × (means r exit ≡ gives v)) ⊎ (means r exit ≡ refuses 2)
+  numbers : length ws ≡ 38 → ((v : Verdict) × (means (r .answer) exit ≡ gives v)) ⊎ (means (r .answer) exit ≡ refuses 2)
   numbers n = go (given-or-lost LostBlock (verdict blockCode word))
     where
       go : (replied LostBlock (verdict blockCode word) ≡ gives (verdict blockCode word)) ⊎ (verdict blockCode word ≡ lost)
-          → ((v : Verdict) × (means r exit ≡ gives v)) ⊎ (means r exit ≡ refuses 2)
+          → ((v : Verdict) × (means (r .answer) exit ≡ gives v)) ⊎ (means (r .answer) exit ≡ refuses 2)
       go (inl e) = inl (verdict blockCode word, its-verdict n .0 ∙ e)
       go (inr e) = inr (its-verdict n .0 ∙ ap (replied LostBlock) e)
 
-  some-codeword : (v : Verdict) → means r exit ≡ gives v → (d : ℕ) × (d < 2 ^ 512) × (exit ≡ digits 16 38 (codeword d))
+  some-codeword : (v : Verdict) → means (r .answer) exit ≡ gives v → (d : ℕ) × (d < 2 ^ 512) × (exit ≡ digits 16 38 (codeword d))
   some-codeword v e =
       let (a, x) = its-verdict (long-enough v e) in
       let (d, l, c) = codeword-now blockCode (promised .verdicts) LostBlock word v (sym a ∙ e) in
       (d, l, x ∙ ap (digits 16 38) c)
 
-  is-codeword : (v : Verdict) → means r exit ≡ gives v → Codeword (dataIn exit) (joined 16 exit)
+  is-codeword : (v : Verdict) → means (r .answer) exit ≡ gives v → Codeword (dataIn exit) (joined 16 exit)
   is-codeword v e =
       let (d, l, x) = some-codeword v e in
       subst (λ (y : ℕ). Codeword y (joined 16 exit)) (sym (ap dataIn x ∙ data-back d l))
       (subst (Codeword d) (sym (ap (joined 16) x ∙ whole d l)) (promised .meets d l))
 
-  as-read : Below 16 ws → ((v : Verdict) → means r exit ≢ gives v) → exit ≡ ws
+  -- where no verdict is given, the word put right is the word
+  unchanged : ((v : Verdict) → means (r .answer) exit ≢ gives v) → length ws ≡ 38 → scrubbed blockCode word ≡ word
+  unchanged ne n = as-it-was blockCode LostBlock word (verdict blockCode word) (λ v z. ne v (its-verdict n .0 ∙ z))
+
+  as-read : Below 16 ws → ((v : Verdict) → means (r .answer) exit ≢ gives v) → exit ≡ ws
   as-read small ne = go (ℕ-discrete (length ws) 38)
     where
       go : Dec (length ws ≡ 38) → exit ≡ ws
-      go (yes n) =
-          let (a, x) = its-verdict n in
-          x ∙ ap (digits 16 38) (as-it-was blockCode LostBlock word (verdict blockCode word) (λ v z. ne v (a ∙ z))) ∙ back ws (n, small)
+      go (yes n) = its-verdict n .1 ∙ ap (digits 16 38) (unchanged ne n) ∙ back ws (n, small)
       go (no n) = other-length n .1
 
   -- the words that were scrubbed, as a number
+  scrubbed-small : length ws ≡ 38 → Below 16 ws → scrubbed blockCode word < 2 ^ 608
+  scrubbed-small n small = scrubbed-lt blockCode (promised .verdicts) (2 ^ 608) codeword-lt word (block-lt ws (n, small))
+
   scrubbed-number : length ws ≡ 38 → Below 16 ws → joined 16 exit ≡ scrubbed blockCode word
   scrubbed-number n small =
-      ap (joined 16) (its-verdict n .1)
-      ∙ joined-digits 16 38 (scrubbed blockCode word)
-      (scrubbed-lt blockCode (promised .verdicts) (2 ^ 608) codeword-lt word (block-lt ws (n, small)))
+      ap (joined 16) (its-verdict n .1) ∙ joined-digits 16 38 (scrubbed blockCode word) (scrubbed-small n small)
 
-  changed : (v : Verdict) → Below 16 ws → means r exit ≡ gives v → flipsOf v ≡ dist word (joined 16 exit)
+  given-verdict : (v : Verdict) → means (r .answer) exit ≡ gives v → v ≡ verdict blockCode word
+  given-verdict v e = given-is LostBlock (verdict blockCode word) (sym (its-verdict (long-enough v e) .0) ∙ e)
+
+  changed : (v : Verdict) → Below 16 ws → means (r .answer) exit ≡ gives v → flipsOf v ≡ dist word (joined 16 exit)
   changed v small e =
-      let n = long-enough v e in
-      let same : v ≡ verdict blockCode word = given-is LostBlock (verdict blockCode word) (sym (its-verdict n .0) ∙ e) in
-      ap flipsOf same ∙ promised .verdicts .changed word ∙ ap (dist word) (sym (scrubbed-number n small))
+      ap flipsOf (given-verdict v e) ∙ promised .verdicts .changed word ∙ ap (dist word) (sym (scrubbed-number (long-enough v e) small))
+
+  -- the pattern, and as a number
+  its-pattern : length ws ≡ 38 → r .pattern ≡ digits 16 38 (patternOf blockCode word)
+  its-pattern n = rw (eq-eqb (length ws) 38 n) at (h .pattern)
+
+  pattern-number : length ws ≡ 38 → Below 16 ws → joined 16 (r .pattern) ≡ patternOf blockCode word
+  pattern-number n small =
+      ap (joined 16) (its-pattern n)
+      ∙ joined-digits 16 38 (patternOf blockCode word)
+      (xor-lt 608 word (scrubbed blockCode word) (block-lt ws (n, small)) (scrubbed-small n small))
+
+  pattern-fits : (length (r .pattern) ≡ 38) × Below 16 (r .pattern)
+  pattern-fits =
+      let p : ℕ = choose (eqb (length ws) 38) (patternOf blockCode word) 0 in
+      rw (h .pattern) (length-digits 16 38 p, digits-below 16 38 p)
+
+  pattern-gives : length ws ≡ 38 → Below 16 ws → bitXor word (joined 16 (r .pattern)) ≡ joined 16 exit
+  pattern-gives n small =
+      ap (bitXor word) (pattern-number n small) ∙ promised .verdicts .pattern .gives word ∙ sym (scrubbed-number n small)
+
+  pattern-flips : (v : Verdict) → Below 16 ws → means (r .answer) exit ≡ gives v → flipsOf v ≡ ones (joined 16 (r .pattern))
+  pattern-flips v small e =
+      ap flipsOf (given-verdict v e) ∙ promised .verdicts .pattern .flips word ∙ ap ones (sym (pattern-number (long-enough v e) small))
+
+  pattern-clean : (d : ℕ) → means (r .answer) exit ≡ gives (clean d) → r .pattern ≡ replicate 38 0
+  pattern-clean d e =
+      its-pattern (long-enough (clean d) e)
+      ∙ ap (digits 16 38) (promised .verdicts .pattern .none-clean word d (sym (given-verdict (clean d) e)))
+
+  pattern-refused : ((v : Verdict) → means (r .answer) exit ≢ gives v) → r .pattern ≡ replicate 38 0
+  pattern-refused ne = go (ℕ-discrete (length ws) 38)
+    where
+      go : Dec (length ws ≡ 38) → r .pattern ≡ replicate 38 0
+      go (yes n) = its-pattern n ∙ ap (digits 16 38) (ap (bitXor word) (unchanged ne n) ∙ xor-self word)
+      go (no n) = rw (ne-eqb (length ws) 38 n) at (h .pattern)
 
   -- a verdict that hands data out
   answers : length ws ≡ 38 → (w d n : ℕ) → word ≡ w → verdict blockCode w ≡ answered d n
-      → (means r exit ≡ gives (answered d n)) × (exit ≡ digits 16 38 (codeword d))
+      → (means (r .answer) exit ≡ gives (answered d n)) × (exit ≡ digits 16 38 (codeword d))
   answers m w d n e p =
       let (a, x) = of-word m w (answered d n) e p in
       (a ∙ answered-given LostBlock d n, x ∙ ap (digits 16 38) (answered-repaired blockCode w d n))
 
 -- a codeword is clean
-clean-codeword : (d : ℕ) (ws exit : List ℕ) (r : BlockAnswer) → d < 2 ^ 512 → ws ≡ digits 16 38 (codeword d) → Scrubbed ws r exit
-    → (means r exit ≡ gives (clean d)) × (exit ≡ ws)
+clean-codeword : (d : ℕ) (ws exit : List ℕ) (r : Scrub) → d < 2 ^ 512 → ws ≡ digits 16 38 (codeword d) → Scrubbed ws r exit
+    → (means (r .answer) exit ≡ gives (clean d)) × (exit ≡ ws)
 clean-codeword d ws exit r l e h =
     let (a, x) =
     of-word ws exit r h (ap length e ∙ length-digits 16 38 (codeword d)) (codeword d) (clean d) (ap (joined 16) e ∙ whole d l) (promised .verdicts .unharmed d l) in
     (a, x ∙ sym e)
 
-undone : (d p : ℕ) (exit : List ℕ) (r : BlockAnswer) → d < 2 ^ 512 → p < 2 ^ 608 → ones p ≤ 2
-    → Scrubbed (digits 16 38 (bitXor (codeword d) p)) r exit → (means r exit ≡ gives (answered d (ones p))) × (exit ≡ digits 16 38 (codeword d))
+undone : (d p : ℕ) (exit : List ℕ) (r : Scrub) → d < 2 ^ 512 → p < 2 ^ 608 → ones p ≤ 2
+    → Scrubbed (digits 16 38 (bitXor (codeword d) p)) r exit
+    → (means (r .answer) exit ≡ gives (answered d (ones p))) × (r .pattern ≡ digits 16 38 p) × (exit ≡ digits 16 38 (codeword d))
 undone d p exit r l h few s =
     let w : ℕ = bitXor (codeword d) p in
-    answers (digits 16 38 w) exit r s (length-digits 16 38 w) w d (ones p)
-    (joined-digits 16 38 w (xor-lt 608 (codeword d) p (codeword-lt d l) h)) (promised .verdicts .undone d p l few)
+    let ws : List ℕ = digits 16 38 w in
+    let n : length ws ≡ 38 = length-digits 16 38 w in
+    let is : joined 16 ws ≡ w = joined-digits 16 38 w (xor-lt 608 (codeword d) p (codeword-lt d l) h) in
+    let (a, x) = answers ws exit r s n w d (ones p) is (promised .verdicts .undone d p l few) in
+    let q = its-pattern ws exit r s n ∙ ap (λ (w : ℕ). digits 16 38 (patternOf blockCode w)) is in
+    (a, q ∙ ap (digits 16 38) (promised .verdicts .pattern .undone d p l few), x)
 
-again : (ws once twice : List ℕ) (r s : BlockAnswer) → length ws ≡ 38 → Below 16 ws → Scrubbed ws r once → Scrubbed once s twice
-    → (v : Verdict) × (u : Verdict) × (means r once ≡ replied LostBlock v) × (means s twice ≡ replied LostBlock u)
+again : (ws once twice : List ℕ) (r s : Scrub) → length ws ≡ 38 → Below 16 ws → Scrubbed ws r once → Scrubbed once s twice
+    → (v : Verdict) × (u : Verdict) × (means (r .answer) once ≡ replied LostBlock v) × (means (s .answer) twice ≡ replied LostBlock u)
     × Again (tallyOfOne v) (tallyOfOne u) × (twice ≡ once)
 again ws once twice r s n small h k =
     let w : ℕ = joined 16 ws in
@@ -231,6 +268,11 @@ scrub-promised = record {
   codeword-now = λ ws exit r v h. is-codeword ws exit r h v;
   as-read = λ ws exit r small h. as-read ws exit r h small;
   changed = λ ws exit r v small h. changed ws exit r h v small;
+  pattern-fits = pattern-fits;
+  pattern-gives = λ ws exit r n small h. pattern-gives ws exit r h n small;
+  pattern-flips = λ ws exit r v small h. pattern-flips ws exit r h v small;
+  pattern-clean = λ ws exit r d h. pattern-clean ws exit r h d;
+  pattern-refused = pattern-refused;
   encoded = λ values before ws exit given a r small e g h.
       let (n, w, same, x) = done values before ws a e given g in
       clean-codeword (joined 16 values) ws exit r (joined-lt 16 32 values n small) x h;
@@ -241,5 +283,8 @@ scrub-promised = record {
 pub one-outcome : OneOutcome
 one-outcome = record {
   encode = λ values before a b r s p q. (p .answer ∙ sym (q .answer), p .after ∙ sym (q .after));
-  scrub = λ ws a b r s p q. (p .answer ∙ sym (q .answer), p .after ∙ sym (q .after));
+  scrub = λ ws a b r s p q. (
+    λ i. record { answer = (p .answer ∙ sym (q .answer)) i; pattern = (p .pattern ∙ sym (q .pattern)) i },
+    p .after ∙ sym (q .after),
+  );
 }

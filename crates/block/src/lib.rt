@@ -23,6 +23,7 @@ ghost use Rattle.codes.specs.Promises.{States};
 ghost use Rattle.block_code.specs.Code.{blockCode};
 ghost use Rattle.block_code.specs.Checks.{noChecks, syndromeOf};
 ghost use Rattle.block.specs.Calls.{Encoded, Scrubbed};
+ghost use Rattle.block.specs.Steps.{flippedEach, answerFor};
 use block_code::Checks;
 use block_flips::Flips;
 use refusals::Refusal;
@@ -45,6 +46,12 @@ pub enum BlockAnswer {
     Refused(Refusal),
 }
 
+// The answer of a scrub, and beside it the places that were flipped: all zero where the block is clean or refused.
+pub struct Scrub {
+    pub answer: BlockAnswer,
+    pub pattern: [u16; 38],
+}
+
 // A block is lent, as 38 words: the type has the constants and the calls.
 pub struct Block;
 
@@ -53,22 +60,45 @@ const VALUES: usize = 32;
 
 const WORDS: usize = 38;
 
-// The flips that explain the syndrome s undone, where there are not more than two.
-fn mend(words: &mut [u16], s: Checks) -> BlockAnswer
-    requires { ⌜ (length (now words) ≡ 38) × (s ≡ syndromeOf (joined 16 (now words))) × (s ≢ noChecks) ⌝ }
-    ensures { λ r. ⌜ Scrubbed (now (words .entry)) r (now (words .exit)) ⌝ }
+// Each of the flips made, in some words.
+fn flip_each(words: &mut [u16], flips: Flips)
+    ensures { λ r. ⌜ now (words .exit) ≡ flippedEach (now (words .entry)) flips ⌝ }
 {
-    match block_flips::nearest(s) {
+    match flips {
         Flips::One(p) => {
             block_words::flip(words, p);
-            BlockAnswer::Done(BlockVerdict::Mended { flips: 1 })
         }
         Flips::Two(p, q) => {
             block_words::flip(words, p);
             block_words::flip(words, q);
-            BlockAnswer::Done(BlockVerdict::Mended { flips: 2 })
         }
+        Flips::More => {}
+    }
+}
+
+// What is answered where these flips are undone.
+fn answer_for(flips: Flips) -> BlockAnswer
+    ensures { λ r. ⌜ r ≡ answerFor flips ⌝ }
+{
+    match flips {
+        Flips::One(_) => BlockAnswer::Done(BlockVerdict::Mended { flips: 1 }),
+        Flips::Two(_, _) => BlockAnswer::Done(BlockVerdict::Mended { flips: 2 }),
         Flips::More => BlockAnswer::Refused(Refusal::LostBlock),
+    }
+}
+
+// The flips that explain the syndrome s undone, where there are not more than two. The same flips in words of zero are the pattern.
+fn mend(words: &mut [u16], s: Checks) -> Scrub
+    requires { ⌜ (length (now words) ≡ 38) × (s ≡ syndromeOf (joined 16 (now words))) × (s ≢ noChecks) ⌝ }
+    ensures { λ r. ⌜ Scrubbed (now (words .entry)) r (now (words .exit)) ⌝ }
+{
+    let found = block_flips::nearest(s);
+    let mut pattern = [0u16; 38];
+    flip_each(&mut pattern, found);
+    flip_each(words, found);
+    Scrub {
+        answer: answer_for(found),
+        pattern,
     }
 }
 
@@ -97,16 +127,22 @@ impl Block {
 
     // The nearest codeword in place of the 38 words that were read, where it is within two places. Where none is, or where the length is
     // another, nothing is written.
-    pub fn scrub(words: &mut [u16]) -> BlockAnswer
+    pub fn scrub(words: &mut [u16]) -> Scrub
         ensures { λ r. ⌜ Scrubbed (now (words .entry)) r (now (words .exit)) ⌝ }
     {
         if words.len() != WORDS {
-            return BlockAnswer::Refused(Refusal::Length);
+            return Scrub {
+                answer: BlockAnswer::Refused(Refusal::Length),
+                pattern: [0; 38],
+            };
         }
         let s = block_words::syndrome(words);
-        if block_code::is_none(s) {
-            return BlockAnswer::Done(BlockVerdict::Clean);
+        if !block_code::is_none(s) {
+            return mend(words, s);
         }
-        mend(words, s)
+        Scrub {
+            answer: BlockAnswer::Done(BlockVerdict::Clean),
+            pattern: [0; 38],
+        }
     }
 }

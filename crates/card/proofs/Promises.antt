@@ -5,14 +5,16 @@ use mathlib.Core.Bool.{true}
 use mathlib.Core.List.{List, [], _++_, map, append-nil}
 use Prim.Native.Nat.{ℕ, _+_, _≤_}
 use native.Mathlib.Omega.{arith}
-use lib.ListN.{length, take, drop, length-map}
+use lib.ListN.{length, getD, take, drop, length-map}
 use Rattle.words.specs.Digits.{Below}
 use Rattle.words.specs.Bytes.{laid}
 use Rattle.words.proofs.Bytes.{take-laid, drop-laid}
 use Rattle.refusals.specs.Reply.{gives}
 use Rattle.refusals.proofs.Promises.{nothing-given}
-use Rattle.codes.specs.Tally.{AddsUp, Again}
-use Rattle.grid_code.specs.Code.{codeword}
+use Rattle.codes.specs.Verdict.{patternOf}
+use Rattle.codes.specs.Tally.{lastPattern, LastMended, AddsUp, Again}
+use Rattle.grid_code.specs.Code.{codeword, gridCode}
+use Rattle.page.specs.Answer.{tallyIn as gridsTally}
 use Rattle.page.proofs.Promises.{laws}
 use Rattle.fields.specs.Fields.{firstBad}
 use Rattle.image.specs.declared.CheckAnswer.{CheckAnswer}
@@ -22,10 +24,12 @@ use Rattle.image.specs.Calls.{Checked}
 use Rattle.image.specs.Promises.{Proper}
 use Rattle.image.proofs.Checking.{checked-long, checked-found, Decided, card-found, no-card, decided}
 use Rattle.image.proofs.Promises.{promised}
+use Rattle.value_scrub.specs.Tally.{tallyIn as blocksTally}
+use Rattle.card_scrub.specs.declared.Tallies.{Tallies}
 use Rattle.card_scrub.specs.declared.ScrubAnswer.{ScrubAnswer}
 use Rattle.card_scrub.specs.declared.ScrubAnswer.the-variants.{Refused as ScrubRefused}
-use Rattle.card_scrub.specs.Answer.{BothTallies, bothTallies, means as scrubMeans}
-use Rattle.card_scrub.specs.Calls.{scrubbedPart, scrubbedCard, Scrubbed}
+use Rattle.card_scrub.specs.Answer.{means as scrubMeans}
+use Rattle.card_scrub.specs.Calls.{scrubbedPart, scrubbedCard, talliesOf, Scrubbed}
 use Rattle.card_write.specs.declared.WriteAnswer.{WriteAnswer}
 use Rattle.card_write.specs.Answer.{means as writeMeans}
 use Rattle.card_write.specs.Calls.{cardOn, cardWith, sizeWritten, lengthsAllowed, Wrote}
@@ -40,25 +44,25 @@ use Rattle.card.proofs.Switches.{put-right, none-switched, no-flips, le
 -- ---- scrub
 
 module _ {s exit : List ℕ} {r : ScrubAnswer} (h : Scrubbed s r exit) where
-  found : (c : Card) → length s ≤ mostBytes → cardOf s ≡ sound c → (scrubMeans r ≡ gives (bothTallies (c .parts))) × (exit ≡ imageOf (scrubbedCard c))
+  found : (c : Card) → length s ≤ mostBytes → cardOf s ≡ sound c → (scrubMeans r ≡ gives (talliesOf (c .parts))) × (exit ≡ imageOf (scrubbedCard c))
   found c l e = (ap scrubMeans (h .answer ∙ checked-found s ScrubRefused _ l e), h .after ∙ checked-found s (λ why. s) _ l e)
 
-  not-scrubbed : ((t : BothTallies) → scrubMeans r ≢ gives t) → exit ≡ s
+  not-scrubbed : ((t : Tallies) → scrubMeans r ≢ gives t) → exit ≡ s
   not-scrubbed n = go (decided s)
     where
       go : Decided s → exit ≡ s
-      go (card-found c l e) = absurd (n (bothTallies (c .parts)) (found c l e .0))
+      go (card-found c l e) = absurd (n (talliesOf (c .parts)) (found c l e .0))
       go (no-card why f) = h .after ∙ f (List ℕ) (λ why. s) _
 
 -- what was done, and is no refusal
-record AfterScrub (s exit : List ℕ) (t : BothTallies) : Type 0 where
+record AfterScrub (s exit : List ℕ) (t : Tallies) : Type 0 where
   pub card : Card
   pub few : length s ≤ mostBytes
   pub is : cardOf s ≡ sound card
-  pub tally : t ≡ bothTallies (card .parts)
+  pub tally : t ≡ talliesOf (card .parts)
   pub after : exit ≡ imageOf (scrubbedCard card)
 
-module _ (s exit : List ℕ) (r : ScrubAnswer) (t : BothTallies) (h : Scrubbed s r exit) (m : scrubMeans r ≡ gives t) where
+module _ (s exit : List ℕ) (r : ScrubAnswer) (t : Tallies) (h : Scrubbed s r exit) (m : scrubMeans r ≡ gives t) where
   after-scrub : AfterScrub s exit t
   after-scrub = go (decided s)
     where
@@ -66,10 +70,22 @@ module _ (s exit : List ℕ) (r : ScrubAnswer) (t : BothTallies) (h : Scrubbed s
       go (card-found c l e) = let (a, b) = found h c l e in record { card = c; few = l; is = e; tally = cc; after = b }
       go (no-card why f) = nothing-given why (sym (ap scrubMeans (h .answer ∙ f ScrubAnswer ScrubRefused _)) ∙ m)
 
-  sums : AddsUp (t .grids) × AddsUp (t .blocks)
+  sums : AddsUp (gridsTally (t .grids)) × AddsUp (blocksTally (t .blocks))
   sums =
       let ps = after-scrub .card .parts in
-      subst (λ t. AddsUp (t .grids) × AddsUp (t .blocks)) (sym (after-scrub .tally)) (laws .all (gridsIn ps), block-laws .all (blocksIn ps))
+      subst (λ t. AddsUp (gridsTally (t .grids)) × AddsUp (blocksTally (t .blocks))) (sym (after-scrub .tally))
+      (laws .all (gridsIn ps), block-laws .all (blocksIn ps))
+
+  last : (c : Card) (i : ℕ) → cardOf s ≡ sound c → LastMended gridCode (gridsIn (c .parts)) i
+      → t .grids .pattern ≡ patternOf gridCode (getD (gridsIn (c .parts)) i 0)
+  last c i e h =
+      let same : after-scrub .card ≡ c = cc (after-scrub .is) in
+      ap (λ t. t .grids .pattern) (after-scrub .tally) ∙ ap (λ c. lastPattern gridCode (gridsIn (c .parts))) same ∙ laws .last (gridsIn (c .parts)) i h
+
+  no-last : t .grids .mended ≡ 0 → t .grids .pattern ≡ 0
+  no-last z =
+      let is = after-scrub .tally in
+      ap (λ t. t .grids .pattern) is ∙ laws .no-last (gridsIn (after-scrub .card .parts)) (sym (ap (λ t. t .grids .mended) is) ∙ z)
 
   module _ (b : Below 8 s) where
     abbrev card : Card
@@ -85,13 +101,21 @@ module _ (s exit : List ℕ) (r : ScrubAnswer) (t : BothTallies) (h : Scrubbed s
     long-now = ap length (after-scrub .after) ∙ same-length card ∙ ap length (shape .1)
 
     again : (q : ScrubAnswer) (last : List ℕ) → Scrubbed exit q last
-        → (u : BothTallies) × (scrubMeans q ≡ gives u) × Again (t .grids) (u .grids) × Again (t .blocks) (u .blocks) × (last ≡ exit)
+        → (u : Tallies) × (scrubMeans q ≡ gives u) × Again (gridsTally (t .grids)) (gridsTally (u .grids))
+        × Again (blocksTally (t .blocks)) (blocksTally (u .blocks)) × (u .grids .pattern ≡ 0) × (last ≡ exit)
     again q last k =
         let (a, e) = found k (scrubbedCard card) (omega (arith, after-scrub .few, long-now)) is-now in
-        let u = bothTallies (map scrubbedPart (card .parts)) in
+        let u = talliesOf (map scrubbedPart (card .parts)) in
         let (g, b) =
-        subst (λ t. Again (t .grids) (u .grids) × Again (t .blocks) (u .blocks)) (sym (after-scrub .tally)) (second (card .parts)) in
-        (u, a, g, b, e ∙ ap imageOf (twice card) ∙ sym (after-scrub .after))
+        subst (λ t. Again (gridsTally (t .grids)) (gridsTally (u .grids)) × Again (blocksTally (t .blocks)) (blocksTally (u .blocks)))
+        (sym (after-scrub .tally)) (second (card .parts)) in (
+          u,
+          a,
+          g,
+          b,
+          laws .no-last (gridsIn (map scrubbedPart (card .parts))) (g .none-mended),
+          e ∙ ap imageOf (twice card) ∙ sym (after-scrub .after),
+        )
 
 pub scrub-promised : ScrubPromises
 scrub-promised = record {
@@ -100,6 +124,8 @@ scrub-promised = record {
   refused = λ s exit r h n. not-scrubbed h n;
   done = λ s exit c r l e h. found h c l e;
   sums = sums;
+  last = λ s exit c r t i e h m. last s exit r t h m c i e;
+  no-last = no-last;
   stays = λ s exit r t b h m.
       let done = after-scrub s exit r t h m in
       (done .card, done .is, is-now s exit r t h m b, same-frame (done .card), long-now s exit r t h m b);
@@ -156,7 +182,7 @@ module _ (title ns image exit : List ℕ) (r : WriteAnswer) (k : ℕ) (h : Wrote
 
     -- with lamps switched
     restored : (ws last : List ℕ) (q : ScrubAnswer) → Switched ns ws → Scrubbed (imageOf (cardOn title ws)) q last
-        → (scrubMeans q ≡ gives (bothTallies (cardOn title ws .parts))) × (last ≡ take k exit)
+        → (scrubMeans q ≡ gives (talliesOf (cardOn title ws .parts))) × (last ≡ take k exit)
     restored ws last q s d =
         let (a, e) = found d (cardOn title ws) (few title ns (after-write .allowed) (after-write .good) ws s)
         (found-on title ns (after-write .allowed) (after-write .good) ws s) in

@@ -10,16 +10,20 @@ use Rattle.words.specs.Word.{dist}
 use Rattle.words.specs.Digits.{Below}
 use Rattle.words.specs.Bytes.{laid}
 use Rattle.refusals.specs.Reply.{gives, refuses, refusesAt}
-use Rattle.codes.specs.Tally.{AddsUp, Again}
+use Rattle.codes.specs.Verdict.{patternOf}
+use Rattle.codes.specs.Tally.{LastMended, AddsUp, Again}
 use Rattle.grid_code.specs.Code.{codeword, gridCode}
+use Rattle.page.specs.Answer.{tallyIn as gridsTally}
 use Rattle.fields.specs.Fields.{headBytes, firstBad}
 use Rattle.image.specs.declared.CheckAnswer.{CheckAnswer}
 use Rattle.image.specs.Card.{Card, sound, broken, mostBytes, gridsIn, blocksIn, cardOf, imageOf}
 use Rattle.image.specs.Answer.{means as checkMeans}
 use Rattle.image.specs.Calls.{Checked}
+use Rattle.value_scrub.specs.Tally.{tallyIn as blocksTally}
+use Rattle.card_scrub.specs.declared.Tallies.{Tallies}
 use Rattle.card_scrub.specs.declared.ScrubAnswer.{ScrubAnswer}
-use Rattle.card_scrub.specs.Answer.{BothTallies, bothTallies, means as scrubMeans}
-use Rattle.card_scrub.specs.Calls.{scrubbedCard, Scrubbed}
+use Rattle.card_scrub.specs.Answer.{means as scrubMeans}
+use Rattle.card_scrub.specs.Calls.{scrubbedCard, talliesOf, Scrubbed}
 use Rattle.card_write.specs.declared.WriteAnswer.{WriteAnswer}
 use Rattle.card_write.specs.Answer.{means as writeMeans}
 use Rattle.card_write.specs.Calls.{cardOn, cardWith, sizeWritten, lengthsAllowed, Wrote}
@@ -41,20 +45,26 @@ pub record ScrubPromises : Type 0 where
   pub broken-image : (s exit : List ℕ) (at : ℕ) (r : ScrubAnswer) → length s ≤ mostBytes → cardOf s ≡ broken at → Scrubbed s r exit
       → scrubMeans r ≡ refusesAt 4 at
   -- A call that gives nothing writes nothing.
-  pub refused : (s exit : List ℕ) (r : ScrubAnswer) → Scrubbed s r exit → ((t : BothTallies) → scrubMeans r ≢ gives t) → exit ≡ s
+  pub refused : (s exit : List ℕ) (r : ScrubAnswer) → Scrubbed s r exit → ((t : Tallies) → scrubMeans r ≢ gives t) → exit ≡ s
   -- A sound image is scrubbed, whatever its grids and blocks are: none of them is a refusal of the call.
   pub done : (s exit : List ℕ) (c : Card) (r : ScrubAnswer) → length s ≤ mostBytes → cardOf s ≡ sound c → Scrubbed s r exit
-      → (scrubMeans r ≡ gives (bothTallies (c .parts))) × (exit ≡ imageOf (scrubbedCard c))
+      → (scrubMeans r ≡ gives (talliesOf (c .parts))) × (exit ≡ imageOf (scrubbedCard c))
   -- Each number is the sum of clean, mended and lost.
-  pub sums : (s exit : List ℕ) (r : ScrubAnswer) (t : BothTallies) → Scrubbed s r exit → scrubMeans r ≡ gives t
-      → AddsUp (t .grids) × AddsUp (t .blocks)
+  pub sums : (s exit : List ℕ) (r : ScrubAnswer) (t : Tallies) → Scrubbed s r exit → scrubMeans r ≡ gives t
+      → AddsUp (gridsTally (t .grids)) × AddsUp (blocksTally (t .blocks))
+  -- The pattern is that of the last mended grid, over all grids fields in order, and zero where none is mended.
+  pub last : (s exit : List ℕ) (c : Card) (r : ScrubAnswer) (t : Tallies) (i : ℕ) → cardOf s ≡ sound c → Scrubbed s r exit
+      → scrubMeans r ≡ gives t → LastMended gridCode (gridsIn (c .parts)) i → t .grids .pattern ≡ patternOf gridCode (getD (gridsIn (c .parts)) i 0)
+  pub no-last : (s exit : List ℕ) (r : ScrubAnswer) (t : Tallies) → Scrubbed s r exit → scrubMeans r ≡ gives t → t .grids .mended ≡ 0
+      → t .grids .pattern ≡ 0
   -- The image stays sound and as long as it was, and holds the scrubbed card: the same title, and as many grids and blocks.
-  pub stays : (s exit : List ℕ) (r : ScrubAnswer) (t : BothTallies) → Below 8 s → Scrubbed s r exit → scrubMeans r ≡ gives t
+  pub stays : (s exit : List ℕ) (r : ScrubAnswer) (t : Tallies) → Below 8 s → Scrubbed s r exit → scrubMeans r ≡ gives t
       → (c : Card) × (cardOf s ≡ sound c) × (cardOf exit ≡ sound (scrubbedCard c)) × SameFrame c (scrubbedCard c) × (length exit ≡ length s)
-  -- A second scrub changes nothing, and finds 0 mended.
-  pub again : (s once twice : List ℕ) (r q : ScrubAnswer) (t : BothTallies) → Below 8 s → Scrubbed s r once → scrubMeans r ≡ gives t
+  -- A second scrub changes nothing, finds 0 mended, and passes on no pattern.
+  pub again : (s once twice : List ℕ) (r q : ScrubAnswer) (t : Tallies) → Below 8 s → Scrubbed s r once → scrubMeans r ≡ gives t
       → Scrubbed once q twice
-      → (u : BothTallies) × (scrubMeans q ≡ gives u) × Again (t .grids) (u .grids) × Again (t .blocks) (u .blocks) × (twice ≡ once)
+      → (u : Tallies) × (scrubMeans q ≡ gives u) × Again (gridsTally (t .grids)) (gridsTally (u .grids))
+      × Again (blocksTally (t .blocks)) (blocksTally (u .blocks)) × (u .grids .pattern ≡ 0) × (twice ≡ once)
 
 -- ws are the grids of the numbers ns, each with at most seven lamps switched
 pub record Switched (ns ws : List ℕ) : Type 0 where
@@ -94,7 +104,7 @@ pub record WritePromises : Type 0 where
   -- After at most seven flips in each grid of it, and none elsewhere, a scrub restores the image as written, ..
   pub restored : (title ns image exit ws after : List ℕ) (r : WriteAnswer) (k : ℕ) (q : ScrubAnswer) → Below 16 ns
       → Wrote title ns image r exit → writeMeans r ≡ gives k → Switched ns ws → Scrubbed (imageOf (cardOn title ws)) q after
-      → (scrubMeans q ≡ gives (bothTallies (cardOn title ws .parts))) × (after ≡ take k exit)
+      → (scrubMeans q ≡ gives (talliesOf (cardOn title ws .parts))) × (after ≡ take k exit)
   -- .. and reading back before the scrub already gives the same title and numbers.
   pub read-before : (title ns image exit ws title₀ ns₀ flips₀ title₁ ns₁ flips₁ : List ℕ) (r : WriteAnswer) (k : ℕ) (q : ReadAnswer)
       → Below 16 ns → Wrote title ns image r exit → writeMeans r ≡ gives k → Switched ns ws → length title ≤ length title₀

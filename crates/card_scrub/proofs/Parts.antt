@@ -10,8 +10,9 @@ use Rattle.words.specs.Digits.{digits, joined, Below}
 use Rattle.words.specs.Bytes.{wordsIn, bytesOf}
 use Rattle.words.proofs.Bytes.{length-words}
 use Rattle.codes.specs.Verdict.{scrubbed}
-use Rattle.codes.specs.Tally.{sumBy, Tally as Counted, tallyOf}
-use Rattle.codes.specs.Steps.{plus}
+use Rattle.codes.specs.Tally.{sumBy, lastFrom, Tally as Counted, tallyOf}
+use Rattle.codes.specs.Steps.{plus, later}
+use Rattle.codes.proofs.Last.{last-two, later-again}
 use Rattle.codes.proofs.Tally.{tally-append, small-sum}
 use Rattle.grid_code.specs.Code.{gridCode}
 use Rattle.grid_code.proofs.Promises as grid
@@ -31,7 +32,7 @@ use Rattle.image.proofs.Checking.{Begins}
 use Rattle.values.specs.Steps.{gridsOf}
 use Rattle.value_scrub.specs.declared.Blocks.{Blocks}
 use Rattle.value_scrub.specs.Tally.{ofBlocks, tallyIn as blocksTally, blockTally}
-use Rattle.value_scrub.specs.Steps.{wrapped, NoBlocks, ScrubbedGrids, ScrubbedBlock}
+use Rattle.value_scrub.specs.Steps.{wrapped, added, NoBlocks, ScrubbedGrids, ScrubbedBlock}
 use Rattle.value_scrub.proofs.Scrubs.{whole-sum}
 use Rattle.card_scrub.specs.declared.Tallies.{Tallies}
 use Rattle.card_scrub.specs.Calls.{scrubbedPart, scrubbedCard, talliesOf}
@@ -76,9 +77,10 @@ Few (grids ws) = length ws ≤ 4096
 Few (block w) = Unit {0}
 
 sum-of-grids : (ws vs : List ℕ) → length ws ≤ 4096 → length vs ≤ 4096
-    → wrapped (plus (tallyOf gridCode ws) (tallyOf gridCode vs)) ≡ tallyOf gridCode (ws ++ vs)
+    → added (gridTally ws) (gridTally vs) ≡ gridTally (ws ++ vs)
 sum-of-grids ws vs p q =
-    whole-sum _ (small-sum gridCode (grid.promised .verdicts) 4096 ws vs p q (lit< tt) (lit< tt)) ∙ sym (tally-append gridCode ws vs)
+    ap₂ ofGrids (whole-sum _ (small-sum gridCode (grid.promised .verdicts) 4096 ws vs p q (lit< tt) (lit< tt)) ∙ sym (tally-append gridCode ws vs))
+    (sym (last-two gridCode (grid.promised .verdicts) ws vs))
 
 sum-of-blocks : (ws vs : List ℕ) → length ws ≤ 32768 → length vs ≤ 32768
     → wrapped (plus (tallyOf blockCode ws) (tallyOf blockCode vs)) ≡ tallyOf blockCode (ws ++ vs)
@@ -88,17 +90,17 @@ sum-of-blocks ws vs p q =
 one-more : (p : Part) (ps : List Part) → Few p → length (gridsIn ps) ≤ 4096 → length (blocksIn ps) ≤ 32768
     → summed (countedIn p) (talliesOf ps) ≡ talliesOf (p ∷ ps)
 one-more (grids ws) ps few g b = λ i. record {
-  grids = ofGrids (sum-of-grids ws (gridsIn ps) few g i);
+  grids = sum-of-grids ws (gridsIn ps) few g i;
   blocks = ofBlocks (sum-of-blocks [] (blocksIn ps) (omega arith) b i);
 }
 one-more (block w) ps few g b = λ i. record {
-  grids = ofGrids (sum-of-grids [] (gridsIn ps) (omega arith) g i);
+  grids = sum-of-grids [] (gridsIn ps) (omega arith) g i;
   blocks = ofBlocks (sum-of-blocks (w ∷ []) (blocksIn ps) (omega arith) b i);
 }
 
 pub none-more : (ps : List Part) → length (gridsIn ps) ≤ 4096 → length (blocksIn ps) ≤ 32768 → summed (talliesOf []) (talliesOf ps) ≡ talliesOf ps
 none-more ps g b = λ i. record {
-  grids = ofGrids (sum-of-grids [] (gridsIn ps) (omega arith) g i);
+  grids = sum-of-grids [] (gridsIn ps) (omega arith) g i;
   blocks = ofBlocks (sum-of-blocks [] (blocksIn ps) (omega arith) b i);
 }
 
@@ -165,7 +167,7 @@ module _ (s v : List ℕ) (n m : ℕ) (r : Tally) (none : Blocks) (w : Walks s) 
       ap₂ (λ (k : ℕ) (p : List ℕ). wordsIn 8 k p) l part
 
   pub grids-passed : Passed s (3 + n) (record { grids = r; blocks = none }) (take 3 s ++ (v ++ drop m (drop 3 s)))
-  unfolding ws partBytes sumBy
+  unfolding ws partBytes sumBy lastFrom
   grids-passed =
       let st = known s f .0 in
       let sizes = grids-size n (known s f .1) in
@@ -181,7 +183,7 @@ module _ (s v : List ℕ) (n m : ℕ) (r : Tally) (none : Blocks) (w : Walks s) 
 module _ (s v : List ℕ) (r : Blocks) (none : Tally) (w : Walks s) (b : Below 8 s) (f : fieldOf s ≡ Block)
     (long : length v ≡ 76) (here : ScrubbedBlock (take 76 (drop 3 s)) r v) (zero-grids : NoGrids none) where
   pub block-passed : Passed s 79 (record { grids = none; blocks = r }) (take 3 s ++ (v ++ drop 76 (drop 3 s)))
-  unfolding partBytes sumBy
+  unfolding partBytes sumBy lastFrom
   block-passed =
       let st = known s f in
       let part : take 76 (drop 3 s) ≡ value s = ap (λ (k : ℕ). take k (drop 3 s)) (sym (st .size-is)) in
@@ -210,7 +212,9 @@ wrapped-again a b c = λ i. record {
 
 pub summed-again : (a b c : Tallies) → summed a (summed b c) ≡ summed (summed a b) c
 summed-again a b c = λ i. record {
-  grids = ofGrids (wrapped-again (gridsTally (a .grids)) (gridsTally (b .grids)) (gridsTally (c .grids)) i);
+  grids =
+      ofGrids (wrapped-again (gridsTally (a .grids)) (gridsTally (b .grids)) (gridsTally (c .grids)) i)
+      (later-again (a .grids .pattern) (b .grids .pattern) (c .grids .pattern) i);
   blocks = ofBlocks (wrapped-again (blocksTally (a .blocks)) (blocksTally (b .blocks)) (blocksTally (c .blocks)) i);
 }
 
@@ -229,14 +233,14 @@ wrapped-once a b = λ i. record {
 
 -- nothing is added by no fields
 pub summed-none : (a b : Tallies) → summed (summed a b) (talliesOf []) ≡ summed a b
-unfolding sumBy
+unfolding sumBy lastFrom
 summed-none a b = λ i. record {
-  grids = ofGrids (wrapped-once (gridsTally (a .grids)) (gridsTally (b .grids)) i);
+  grids = ofGrids (wrapped-once (gridsTally (a .grids)) (gridsTally (b .grids)) i) (later (a .grids .pattern) (b .grids .pattern));
   blocks = ofBlocks (wrapped-once (blocksTally (a .blocks)) (blocksTally (b .blocks)) i);
 }
 
 pub none-none : summed (talliesOf []) (talliesOf []) ≡ talliesOf []
-unfolding sumBy
+unfolding sumBy lastFrom
 none-none = refl
 
 -- ---- the whole image

@@ -23,10 +23,11 @@ scrubbedPart (block w) = block (scrubbed blockCode w)
 abbrev pub scrubbedCard : Card → Card
 scrubbedCard c = record { title = c .title; parts = map scrubbedPart (c .parts) }
 
+-- what is counted of data fields: of all their grids, and of all their blocks
 abbrev pub talliesOf : List Part → Tallies
 talliesOf ps = record { grids = gridTally (gridsIn ps); blocks = blockTally (blocksIn ps) }
 
--- `card::scrub`: a tally for grids and one for blocks. The value of each data field is put right within the image, where a lost grid or
+-- `card::scrub`: a tally for grids, with the pattern of the last mended one, and a tally for blocks. The value of each data field is put right within the image, where a lost grid or
 -- block stays as it was. An image that is too long or broken is refused, and nothing is written.
 pub record Scrubbed (image : List ℕ) (r : ScrubAnswer) (exit : List ℕ) : Type 0 where
   pub answer : r ≡ checkedAs image Refused (λ c. Done (talliesOf (c .parts)))

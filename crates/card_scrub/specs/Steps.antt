@@ -4,12 +4,10 @@ use mathlib.Core.List.{List, [], _++_, map}
 use Prim.Native.Nat.{ℕ, _≤_, _<_}
 use lib.ListN.{length, take, drop}
 use Rattle.codes.specs.Steps.{plus}
-use Rattle.page.specs.Answer.{tallyIn as gridsTally}
-use Rattle.page.specs.Calls.{ofGrids}
 use Rattle.image.specs.Card.{Part, sound, walk, head, partsBytes}
 use Rattle.image.specs.Steps.{Walks}
-use Rattle.value_scrub.specs.Tally.{ofBlocks, tallyIn as blocksTally}
-use Rattle.value_scrub.specs.Steps.{wrapped}
+use Rattle.value_scrub.specs.Tally.{ofBlocks, tallyIn}
+use Rattle.value_scrub.specs.Steps.{wrapped, added}
 use Rattle.card_scrub.specs.declared.Tallies.{Tallies}
 use Rattle.card_scrub.specs.declared.First.{First}
 use Rattle.card_scrub.specs.declared.First.the-variants.{Data, End}
@@ -18,8 +16,8 @@ use Rattle.card_scrub.specs.Calls.{scrubbedPart, talliesOf}
 -- both tallies of two parts, in numbers of 32 bits
 abbrev pub summed : Tallies → Tallies → Tallies
 summed a b = record {
-  grids = ofGrids (wrapped (plus (gridsTally (a .grids)) (gridsTally (b .grids))));
-  blocks = ofBlocks (wrapped (plus (blocksTally (a .blocks)) (blocksTally (b .blocks))));
+  grids = added (a .grids) (b .grids);
+  blocks = ofBlocks (wrapped (plus (tallyIn (a .blocks)) (tallyIn (b .blocks))));
 }
 
 -- the fields behind a title

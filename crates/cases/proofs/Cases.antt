@@ -12,8 +12,8 @@ use Rattle.words.proofs.Dist.{dist-sym}
 use Rattle.words.proofs.Digits.{dist-digits}
 use Rattle.words.proofs.Test.{both-left, both-right, every}
 use Rattle.words.proofs.Xor.{xor-cancel-l}
-use Rattle.codes.specs.Verdict.{clean, mended, lost, off, answered, verdict}
-use Rattle.codes.proofs.Promises.{found, has-verdict}
+use Rattle.codes.specs.Verdict.{Verdict, clean, mended, lost, off, answered, verdict, repaired, patternOf}
+use Rattle.codes.proofs.Promises.{found, has-verdict, answered-repaired}
 use Rattle.grid_code.specs.Equations as grid
 use Rattle.grid_code.specs.Code.{codeword, gridCode}
 use Rattle.grid_code.specs.Sides.{rowOf}
@@ -36,6 +36,10 @@ apart w d = sumTo 8 (λ r. dist (rowOf w r) (rowOf (codeword d) r))
 distant? : ℕ → ℕ → ℕ → Bool
 distant? w d n = ltb w (2 ^ 64) && (ltb d (2 ^ 16) && eqb (apart w d) n)
 
+-- .. within seven, and they are the pattern p
+mends? : ℕ → ℕ → ℕ → ℕ → Bool
+mends? w d n p = distant? w d n && (leb n 7 && eqb (bitXor w (codeword d)) p)
+
 -- the block of d, with the system parity over the columns: 16 places to count and not 32
 block : ℕ → ℕ
 block d =
@@ -44,10 +48,10 @@ block d =
 
 right? : Case → Bool
 right? (ofGrid d g) = ltb d (2 ^ 16) && eqb (codeword d) g
-right? (read w (clean d)) = distant? w d 0
-right? (read w (mended d zero)) = false
-right? (read w (mended d (suc n))) = distant? w d (suc n) && leb (suc n) 7
-right? (read w lost) = distant? w 0 8
+right? (read w (clean d) p) = mends? w d 0 p
+right? (read w (mended d zero) p) = false
+right? (read w (mended d (suc n)) p) = mends? w d (suc n) p
+right? (read w lost p) = distant? w 0 8 && eqb p 0
 right? (distant w d n) = distant? w d n
 right? (ofBlock d w) = ltb d (2 ^ 512) && eqb (block d) w
 
@@ -65,10 +69,23 @@ distance-is w d n t =
     let h : d < 2 ^ 16 = ltb→lt d (2 ^ 16) (both-left (ltb d (2 ^ 16)) (eqb (apart w d) n) u) in
     (h, counted w d l h ∙ eqb→eq (apart w d) n (both-right (ltb d (2 ^ 16)) (eqb (apart w d) n) u))
 
-near : (w d n : ℕ) → n ≤ 7 → T (distant? w d n) → verdict gridCode w ≡ answered d n
-near w d n few t =
-    let (h, e) = distance-is w d n t in
-    found gridCode 16 distance (lit< tt) w d h (subst (λ (x : ℕ). x ≤ 7) (sym e) few) ∙ ap (answered d) e
+near : (w d n p : ℕ) → T (mends? w d n p) → (verdict gridCode w ≡ answered d n) × (patternOf gridCode w ≡ p)
+unfolding mends?
+near w d n p t =
+    let same? = eqb (bitXor w (codeword d)) p in
+    let (h, e) = distance-is w d n (both-left (distant? w d n) (leb n 7 && same?) t) in
+    let u : T (leb n 7 && same?) = both-right (distant? w d n) (leb n 7 && same?) t in
+    let few : n ≤ 7 = leb→le n 7 (both-left (leb n 7) same? u) in
+    let v : verdict gridCode w ≡ answered d n =
+    found gridCode 16 distance (lit< tt) w d h (subst (λ (x : ℕ). x ≤ 7) (sym e) few) ∙ ap (answered d) e in (
+      v,
+      ap (λ v. bitXor w (repaired gridCode w v)) v ∙ ap (bitXor w) (answered-repaired gridCode w d n)
+          ∙ eqb→eq (bitXor w (codeword d)) p (both-right (leb n 7) same? u),
+    )
+
+-- what was answered is the verdict, with its pattern
+reads : (w p : ℕ) (v : Verdict) → verdict gridCode w ≡ v → patternOf gridCode w ≡ p → Says (read w v p)
+reads w p v e q = (has-verdict gridCode (promised .verdicts) w e, q)
 
 -- a word eight places from the grid of 0 is lost
 far : (w : ℕ) → T (distant? w 0 8) → verdict gridCode w ≡ lost
@@ -89,12 +106,12 @@ right (ofGrid d g) t =
     let h : d < 2 ^ 16 = ltb→lt d (2 ^ 16) (both-left (ltb d (2 ^ 16)) (eqb (codeword d) g) t) in
     let e : codeword d ≡ g = eqb→eq (codeword d) g (both-right (ltb d (2 ^ 16)) (eqb (codeword d) g) t) in
     (subst (grid.Codeword d) e (is-codeword d h), has-verdict gridCode (promised .verdicts) g (ap (verdict gridCode) (sym e) ∙ promised .verdicts .unharmed d h))
-right (read w (clean d)) t = has-verdict gridCode (promised .verdicts) w (near w d 0 (lit≤ tt) t)
-right (read w (mended d zero)) t = absurd t
-right (read w (mended d (suc n))) t =
-    has-verdict gridCode (promised .verdicts) w
-    (near w d (suc n) (leb→le (suc n) 7 (both-right (distant? w d (suc n)) (leb (suc n) 7) t)) (both-left (distant? w d (suc n)) (leb (suc n) 7) t))
-right (read w lost) t = has-verdict gridCode (promised .verdicts) w (far w t)
+right (read w (clean d) p) t = let (v, q) = near w d 0 p t in reads w p (clean d) v q
+right (read w (mended d zero) p) t = absurd t
+right (read w (mended d (suc n)) p) t = let (v, q) = near w d (suc n) p t in reads w p (mended d (suc n)) v q
+right (read w lost p) t =
+    let v = far w (both-left (distant? w 0 8) (eqb p 0) t) in
+    reads w p lost v (promised .verdicts .pattern .none-lost w v ∙ sym (eqb→eq p 0 (both-right (distant? w 0 8) (eqb p 0) t)))
 right (distant w d n) t = distance-is w d n t .1
 right (ofBlock d w) t =
     let h : d < 2 ^ 512 = ltb→lt d (2 ^ 512) (both-left (ltb d (2 ^ 512)) (eqb (block d) w) t) in
@@ -108,5 +125,5 @@ each [] t = tt
 each (c ∷ cs) t = (right c (both-left (right? c) (every right? cs) t), each cs (both-right (right? c) (every right? cs) t))
 
 pub cases-hold : Hold cases
-unfolding codeword block stacked right? distant? apart dist ones
+unfolding codeword block stacked right? mends? distant? apart dist ones
 cases-hold = each cases tt

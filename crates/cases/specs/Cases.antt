@@ -2,17 +2,17 @@
 use mathlib.Core.Path.{_≡_}
 use mathlib.Core.List.{List, [], _∷_}
 use Prim.Native.Nat.{ℕ, _+_, _*_, _^_}
-use Rattle.codes.specs.Verdict.{Verdict, clean, mended, lost, off, IsVerdict}
+use Rattle.codes.specs.Verdict.{Verdict, clean, mended, lost, off, IsVerdict, patternOf}
 use Rattle.grid_code.specs.Equations as grid
 use Rattle.grid_code.specs.Code.{gridCode}
 use Rattle.block_code.specs.Equations as block
 use Rattle.block_code.specs.Code.{blockCode}
 
--- ofGrid d g: the grid of the data d is g, and it is clean. read w v: the verdict on the grid w is v. distant w d n: the grid w is n places
--- from that of the data d. ofBlock d w: the block of the data d is w, and it is clean.
+-- ofGrid d g: the grid of the data d is g, and it is clean. read w v p: the verdict on the grid w is v, and the pattern of the flips is p.
+-- distant w d n: the grid w is n places from that of the data d. ofBlock d w: the block of the data d is w, and it is clean.
 pub data Case : Type 0 where
   ofGrid : ℕ → ℕ → Case
-  read : ℕ → Verdict → Case
+  read : ℕ → Verdict → ℕ → Case
   distant : ℕ → ℕ → ℕ → Case
   ofBlock : ℕ → ℕ → Case
 
@@ -28,11 +28,11 @@ cases =
     ∷ ofGrid 4096 0x00B1_B1B1_B100_0000
     ∷ ofGrid 15 0xFF00_FFFF_0000_00FF
     ∷ ofGrid 65535 0xFFFF_FFFF_FFFF_FFFF
-    ∷ read 0x0000_00B0_0000_00B1 (mended 0 7)
-    ∷ read 0x0000_00B1_0000_00B1 lost
+    ∷ read 0x0000_00B0_0000_00B1 (mended 0 7) 0x0000_00B0_0000_00B1
+    ∷ read 0x0000_00B1_0000_00B1 lost 0
     ∷ distant 0x0000_00B1_0000_00B1 0 8
     ∷ distant 0x0000_00B1_0000_00B1 1 8
-    ∷ read 0x0000_01B1_0000_00B1 (mended 1 7)
+    ∷ read 0x0000_01B1_0000_00B1 (mended 1 7) 0xB100_B000_0000_0000
     -- row 0, column 0 only: words 0, 32, 34, 35 are 1, word 37 is 8000
     ∷ ofBlock (word 0 1) (word 0 1 + word 32 1 + word 34 1 + word 35 1 + word 37 0x8000)
     -- row 31, column 15 only: words 31, 33, 34 are 8000, word 37 is C000
@@ -44,7 +44,7 @@ cases =
 -- what a case says, by the definitions
 abbrev pub Says : Case → Type 0
 Says (ofGrid d g) = grid.Codeword d g × IsVerdict gridCode g (clean d)
-Says (read w v) = IsVerdict gridCode w v
+Says (read w v p) = IsVerdict gridCode w v × (patternOf gridCode w ≡ p)
 Says (distant w d n) = off gridCode w d ≡ n
 Says (ofBlock d w) = block.Codeword d w × IsVerdict blockCode w (clean d)
 

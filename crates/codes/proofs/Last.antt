@@ -11,7 +11,7 @@ use lib.Seq.{take-suc}
 use borrow.Author.Tests.{eq-eqb, ne-eqb}
 use Rattle.codes.specs.Verdict.{Code, Verdict, clean, mended, lost, verdict, patternOf}
 use Rattle.codes.specs.Promises.{Promises}
-use Rattle.codes.specs.Tally.{isMended, sumBy, passedOn, lastFrom, lastPattern}
+use Rattle.codes.specs.Tally.{isMended, sumBy, passedOn, lastFrom, lastPattern, LastMended}
 use Rattle.codes.specs.Steps.{later}
 
 -- ---- one word
@@ -20,6 +20,11 @@ passed-none : (v : Verdict) (p before : ℕ) → isMended v ≡ 0 → passedOn v
 passed-none (clean d) p before z = refl
 passed-none (mended d n) p before z = absurd (omega (arith, z))
 passed-none lost p before z = refl
+
+passed-own : (v : Verdict) (p before : ℕ) → isMended v ≡ 1 → passedOn v p before ≡ p
+passed-own (clean d) p before z = absurd (omega (arith, z))
+passed-own (mended d n) p before z = refl
+passed-own lost p before z = absurd (omega (arith, z))
 
 -- ---- of a list
 
@@ -40,18 +45,21 @@ module _ (C : Code) where
   no-last ws e = none-passed 0 ws e
 
   -- the last mended one, whatever came before
-  last-from : (before : ℕ) (ws : List ℕ) (i d n : ℕ) → i < length ws → verdict C (getD ws i 0) ≡ mended d n
-      → ((j : ℕ) → i < j → j < length ws → isMended (verdict C (getD ws j 0)) ≡ 0) → lastFrom C before ws ≡ patternOf C (getD ws i 0)
+  last-from : (before : ℕ) (ws : List ℕ) (i : ℕ) → LastMended C ws i → lastFrom C before ws ≡ patternOf C (getD ws i 0)
   unfolding lastFrom
-  last-from before [] i d n l e h = absurd (omega arith)
-  last-from before (w ∷ ws) zero d n l e h =
-      ap (λ v. lastFrom C (passedOn v (patternOf C w) before) ws) e
-      ∙ none-passed (patternOf C w) ws (none-mended ws (λ j l. h (suc j) (omega arith) (omega arith)))
-  last-from before (w ∷ ws) (suc i) d n l e h =
-      last-from (passedOn (verdict C w) (patternOf C w) before) ws i d n (omega arith) e (λ j k l. h (suc j) (omega arith) (omega arith))
+  last-from before [] i h = absurd (omega (arith, h .below))
+  last-from before (w ∷ ws) zero h =
+      ap (λ (p : ℕ). lastFrom C p ws) (passed-own (verdict C w) (patternOf C w) before (h .is-mended))
+      ∙ none-passed (patternOf C w) ws (none-mended ws (λ j l. h .none-behind (suc j) (omega arith) (omega arith)))
+  last-from before (w ∷ ws) (suc i) h =
+      last-from (passedOn (verdict C w) (patternOf C w) before) ws i
+      (record {
+        below = omega (arith, h .below);
+        is-mended = h .is-mended;
+        none-behind = λ j k l. h .none-behind (suc j) (omega arith) (omega arith);
+      })
 
-  pub last : (ws : List ℕ) (i d n : ℕ) → i < length ws → verdict C (getD ws i 0) ≡ mended d n
-      → ((j : ℕ) → i < j → j < length ws → isMended (verdict C (getD ws j 0)) ≡ 0) → lastPattern C ws ≡ patternOf C (getD ws i 0)
+  pub last : (ws : List ℕ) (i : ℕ) → LastMended C ws i → lastPattern C ws ≡ patternOf C (getD ws i 0)
   last ws = last-from 0 ws
 
   -- two parts

@@ -12,11 +12,11 @@ use Rattle.words.specs.Digits.{digits, joined}
 use Rattle.words.proofs.Digits.{joined-lt, joined-digits, digits-joined}
 use Rattle.refusals.specs.declared.Refusal.the-variants.{LostGrid}
 use Rattle.refusals.specs.Reply.{gives}
-use Rattle.codes.specs.Verdict.{Verdict, clean, mended, lost, answered, replied, verdict, flipsOf, repaired, scrubbed}
+use Rattle.codes.specs.Verdict.{Verdict, clean, mended, lost, answered, replied, verdict, flipsOf, repaired, scrubbed, patternOf}
 use Rattle.codes.specs.Promises.{Demand3}
 use Rattle.codes.specs.Tally.{isClean}
 use Rattle.codes.proofs.Promises.{has-verdict, answered-given, answered-repaired, clean-word}
-use Rattle.codes.proofs.Tally.{given-or-lost, as-it-was}
+use Rattle.codes.proofs.Tally.{given-or-lost, given-is, as-it-was}
 use Rattle.grid_code.specs.Code.{codeword, gridCode}
 use Rattle.grid_code.proofs.Promises.{promised}
 use Rattle.grid_code.proofs.Distance.{codeword-lt}
@@ -45,6 +45,19 @@ module _ (rows : List ℕ) (r : Answer) (h : Decoded rows r) where
       (sym (ap (joined 8) (h .repaired)
       ∙ scrubbed-number (joined 8 rows) l))
 
+  pattern-gives : length rows ≡ 8 → ((i : ℕ) → getD rows i 0 < 2 ^ 8) → bitXor (joined 8 rows) (r .pattern) ≡ joined 8 (r .grid .rows)
+  pattern-gives n small =
+      ap (bitXor (joined 8 rows)) (h .pattern) ∙ promised .verdicts .pattern .gives (joined 8 rows)
+      ∙ sym (ap (joined 8) (h .repaired) ∙ scrubbed-number (joined 8 rows) (joined-lt 8 8 rows n small))
+
+  pattern-clean : (d : ℕ) → means (r .verdict) ≡ gives (clean d) → r .pattern ≡ 0
+  pattern-clean d e =
+      h .pattern ∙ promised .verdicts .pattern .none-clean (joined 8 rows) d (sym (h .answer) ∙ sym (given-is LostGrid (verdictOf (r .verdict)) e))
+
+  pattern-refused : ((v : Verdict) → means (r .verdict) ≢ gives v) → r .pattern ≡ 0
+  pattern-refused ne = ⊎-elim (λ e. absurd (ne (verdictOf (r .verdict)) e))
+      (λ e. h .pattern ∙ promised .verdicts .pattern .none-lost (joined 8 rows) (sym (h .answer) ∙ e)) (given-or-lost LostGrid (verdictOf (r .verdict)))
+
   -- the rows are those of a word whose verdict is known
   of-word : (w : ℕ) (v : Verdict) → joined 8 rows ≡ w → verdict gridCode w ≡ v
       → (means (r .verdict) ≡ replied LostGrid v) × (r .grid .rows ≡ digits 8 8 (repaired gridCode w v))
@@ -58,12 +71,15 @@ flipped : (d p : ℕ) → d < 2 ^ 16 → p < 2 ^ 64 → joined 8 (digits 8 8 (bi
 flipped d p l h = joined-digits 8 8 (bitXor (codeword d) p) (xor-lt 64 (codeword d) p (codeword-lt d l) h)
 
 undone : (d p : ℕ) (r : Answer) → d < 2 ^ 16 → p < 2 ^ 64 → ones p ≤ gridCode .radius → Decoded (digits 8 8 (bitXor (codeword d) p)) r
-    → (means (r .verdict) ≡ gives (answered d (ones p))) × (r .grid .rows ≡ digits 8 8 (codeword d))
+    → (means (r .verdict) ≡ gives (answered d (ones p))) × (r .grid .rows ≡ digits 8 8 (codeword d)) × (r .pattern ≡ p)
 undone d p r l k few h =
     let (v, g) =
     of-word (digits 8 8 (bitXor (codeword d) p)) r h (bitXor (codeword d) p) (answered d (ones p)) (flipped d p l k)
-    (promised .verdicts .undone d p l few) in
-    (v ∙ answered-given LostGrid d (ones p), g ∙ ap (digits 8 8) (answered-repaired gridCode (bitXor (codeword d) p) d (ones p)))
+    (promised .verdicts .undone d p l few) in (
+      v ∙ answered-given LostGrid d (ones p),
+      g ∙ ap (digits 8 8) (answered-repaired gridCode (bitXor (codeword d) p) d (ones p)),
+      h .pattern ∙ ap (patternOf gridCode) (flipped d p l k) ∙ promised .verdicts .pattern .undone d p l few,
+    )
 
 -- ---- no second outcome
 
@@ -83,6 +99,7 @@ same-answer : (rows : List ℕ) (a b : Answer) → Decoded rows a → Decoded ro
 same-answer rows a b p q = λ i. record {
   verdict = (sym (told-verdict (a .verdict)) ∙ ap told (p .answer ∙ sym (q .answer)) ∙ told-verdict (b .verdict)) i;
   grid = record { rows = (p .repaired ∙ sym (q .repaired)) i };
+  pattern = (p .pattern ∙ sym (q .pattern)) i;
 }
 
 pub decode-promised : DecodePromises
@@ -93,6 +110,10 @@ decode-promised = record {
   no-tie = λ rows. promised .verdicts .no-tie (joined 8 rows);
   numbers = λ rows r h. ⊎-elim inl (λ e. inr (ap (replied LostGrid) e)) (given-or-lost LostGrid (verdictOf (r .verdict)));
   changed = λ rows r n small h. changed rows r h n small;
+  pattern-gives = λ rows r n small h. pattern-gives rows r h n small;
+  pattern-flips = λ rows r h. ap flipsOf (h .answer) ∙ promised .verdicts .pattern .flips (joined 8 rows) ∙ sym (ap ones (h .pattern));
+  pattern-clean = λ rows d r h. pattern-clean rows r h d;
+  pattern-refused = λ rows r h. pattern-refused rows r h;
   as-read = λ rows r n small h refused. as-read rows r h n small refused;
   encoded = λ d rows r l e h.
       let (v, g) = of-word rows r h (codeword d) (clean d) (ap (joined 8) (e .answer) ∙ joined-digits 8 8 (codeword d) (codeword-lt d l)) (promised .verdicts .unharmed d l) in

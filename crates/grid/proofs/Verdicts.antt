@@ -1,10 +1,11 @@
 -- The ways in which the decoder answers, over plain values: clean, by a codeword that was found, lost. Assumes nothing.
-use mathlib.Core.Path.{_≡_, refl, sym, ap, _∙_}
+use mathlib.Core.Path.{_≡_, refl, sym, ap, ap₂, _∙_}
 use mathlib.Core.Logic.{_≢_}
 use mathlib.Core.Bool.{true}
 use mathlib.Core.List.{List}
 use Prim.Native.Nat.{ℕ, zero, suc, _^_, _<_}
 use native.Mathlib.Omega.{arith}
+use lib.Bits.{bitXor, xor-self}
 use lib.Dec.{eqb}
 use lib.ListN.{length}
 use borrow.Author.Tests.{eq-eqb, ne-eqb, eqb-true}
@@ -39,11 +40,13 @@ judged-clean rows j =
     clean-of (verdict gridCode (joined 8 rows)) (eqb-true (isClean (verdict gridCode (joined 8 rows))) 1 (sym (j .answer)))
 
 -- the statement, from a verdict
-decoded : (rows out : List ℕ) (v : enum.Verdict) (u : Verdict) → verdict gridCode (joined 8 rows) ≡ u → verdictOf v ≡ u
-    → out ≡ digits 8 8 (repaired gridCode (joined 8 rows) u) → Decoded rows (record { verdict = v; grid = record { rows = out } })
-decoded rows out v u e a o = record {
+decoded : (rows out : List ℕ) (p : ℕ) (v : enum.Verdict) (u : Verdict) → verdict gridCode (joined 8 rows) ≡ u → verdictOf v ≡ u
+    → out ≡ digits 8 8 (repaired gridCode (joined 8 rows) u) → p ≡ bitXor (joined 8 rows) (repaired gridCode (joined 8 rows) u)
+    → Decoded rows (record { verdict = v; grid = record { rows = out }; pattern = p })
+decoded rows out p v u e a o q = record {
   answer = a ∙ sym e;
   repaired = o ∙ sym (ap (λ u. digits 8 8 (repaired gridCode (joined 8 rows) u)) e);
+  pattern = q ∙ sym (ap (λ u. bitXor (joined 8 rows) (repaired gridCode (joined 8 rows) u)) e);
 }
 
 -- ---- clean
@@ -68,13 +71,12 @@ module _ (rows : List ℕ) (word : ℕ) (is : word ≡ joined 8 rows) where
       go (mended d n) e = ne-eqb number word (none e refl)
       go lost e = ne-eqb number word (none e refl)
 
-  pub is-clean : (eight : length rows ≡ 8) (small : Below 8 rows) (places e : ℕ) (v : enum.Verdict) → Masked word places → Gathered places e
-      → Judged rows true → verdictOf v ≡ answered e 0 → Decoded rows (record { verdict = v; grid = record { rows = rows } })
-  is-clean eight small places e v taken read j a =
+  -- a clean grid is its own codeword
+  pub is-clean : Judged rows true → Nearby rows (Within word 0)
+  is-clean j =
       let (d, p) = judged-clean rows j in
       let (l, s) = clean-word gridCode (promised .verdicts) (joined 8 rows) d p in
-      decoded rows rows v (clean d) p (a ∙ ap clean (taken-data word places e d taken read l (is ∙ s)))
-      (sym (promised .back-and-there rows eight small) ∙ ap (digits 8 8) s)
+      record { answer = ap (λ (w : ℕ). Within w 0) (is ∙ s) ∙ sym (ap nearOf p) }
 
 -- ---- by the trials
 
@@ -95,23 +97,23 @@ beyond-is (clean d) e = let z : _≡_ {A = ℕ} 0 1 = cc in absurd (omega arith)
 beyond-is (mended d n) e = let z : _≡_ {A = ℕ} 0 1 = cc in absurd (omega arith)
 beyond-is lost e = refl
 
-module _ (rows : List ℕ) (found : Near) (by : Nearby rows found) where
-  module _ (number flips : ℕ) (is : found ≡ Within number flips) (places e : ℕ) (taken : Masked number places) (read : Gathered places e)
-      (out : List ℕ) (o : out ≡ digits 8 8 number) where
-    answers : (verdict gridCode (joined 8 rows) ≡ answered e flips) × (number ≡ codeword e)
-    answers =
-        let (d, l, s, v) =
+module _ (rows : List ℕ) where
+  -- whether clean or mended, what is written is the codeword
+  module _ (number flips : ℕ) (places e word p : ℕ) (out : List ℕ) (taken : Masked number places) (read : Gathered places e)
+      (o : out ≡ digits 8 8 number) (w : word ≡ joined 8 rows) (q : p ≡ bitXor word number) (by : Nearby rows (Within number flips)) where
+    pub answers : (v : enum.Verdict) → verdictOf v ≡ answered e flips
+        → Decoded rows (record { verdict = v; grid = record { rows = out }; pattern = p })
+    answers v a =
+        let (d, l, s, u) =
         within-is (joined 8 rows) number flips (verdict gridCode (joined 8 rows))
-        (has-verdict gridCode (promised .verdicts) (joined 8 rows) refl) (sym is ∙ by .answer) in
-        let q : e ≡ d = taken-data number places e d taken read l s in
-        (v ∙ sym (ap (λ (x : ℕ). answered x flips) q), s ∙ sym (ap codeword q))
+        (has-verdict gridCode (promised .verdicts) (joined 8 rows) refl) (by .answer) in
+        let f : e ≡ d = taken-data number places e d taken read l s in
+        let c : number ≡ repaired gridCode (joined 8 rows) (answered e flips) =
+        s ∙ sym (ap codeword f) ∙ sym (answered-repaired gridCode (joined 8 rows) e flips) in
+        decoded rows out p v (answered e flips) (u ∙ sym (ap (λ (x : ℕ). answered x flips) f)) a (o ∙ ap (digits 8 8) c) (q ∙ ap₂ bitXor w c)
 
-    -- whether clean or mended, what is written is the codeword
-    pub mends : (v : enum.Verdict) → verdictOf v ≡ answered e flips → Decoded rows (record { verdict = v; grid = record { rows = out } })
-    mends v a =
-        let (u, s) = answers in
-        decoded rows out v (answered e flips) u a (o ∙ ap (digits 8 8) (s ∙ sym (answered-repaired gridCode (joined 8 rows) e flips)))
-
-  pub is-lost : found ≡ Beyond → length rows ≡ 8 → Below 8 rows → Decoded rows (record { verdict = Lost; grid = record { rows = rows } })
-  is-lost is eight small =
-      decoded rows rows Lost lost (beyond-is (verdict gridCode (joined 8 rows)) (sym is ∙ by .answer)) refl (sym (promised .back-and-there rows eight small))
+  pub is-lost : (found : Near) → Nearby rows found → found ≡ Beyond → length rows ≡ 8 → Below 8 rows
+      → Decoded rows (record { verdict = Lost; grid = record { rows = rows }; pattern = 0 })
+  is-lost found by is eight small =
+      decoded rows rows 0 Lost lost (beyond-is (verdict gridCode (joined 8 rows)) (sym is ∙ by .answer)) refl
+      (sym (promised .back-and-there rows eight small)) (sym (xor-self (joined 8 rows)))

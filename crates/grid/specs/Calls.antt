@@ -5,7 +5,7 @@ use mathlib.Core.List.{List}
 use Prim.Native.Nat.{ℕ}
 use lib.Dec.{eqb}
 use Rattle.words.specs.Digits.{digits, joined}
-use Rattle.codes.specs.Verdict.{verdict, scrubbed}
+use Rattle.codes.specs.Verdict.{verdict, scrubbed, patternOf}
 use Rattle.codes.specs.Tally.{isClean}
 use Rattle.grid_code.specs.Equations.{Codeword}
 use Rattle.grid_code.specs.Code.{codeword, gridCode}
@@ -29,7 +29,9 @@ pub record Parted (w : ℕ) (rows : List ℕ) : Type 0 where
 pub record Judged (rows : List ℕ) (r : Bool) : Type 0 where
   pub answer : r ≡ eqb (isClean (verdict gridCode (joined 8 rows))) 1
 
--- `Grid::decode` and `Grid::mend`: the verdict on the grid, and beside it the codeword, or on refusal the grid as read.
+-- `Grid::decode` and `Grid::mend`: the verdict on the grid, and beside it the codeword, or on refusal the grid as read; and the pattern of the
+-- flips.
 pub record Decoded (rows : List ℕ) (r : Answer) : Type 0 where
   pub answer : verdictOf (r .verdict) ≡ verdict gridCode (joined 8 rows)
   pub repaired : r .grid .rows ≡ digits 8 8 (scrubbed gridCode (joined 8 rows))
+  pub pattern : r .pattern ≡ patternOf gridCode (joined 8 rows)

@@ -34,15 +34,22 @@ pub record DecodePromises : Type 0 where
   -- The flips are the places in which the repaired grid differs from the grid as read, checks included.
   pub changed : (rows : List ℕ) (r : Answer) → length rows ≡ 8 → Below 8 rows → Decoded rows r
       → flipsOf (verdictOf (r .verdict)) ≡ dist (joined 8 rows) (joined 8 (r .grid .rows))
+  -- Grid as read and pattern combined give the repaired grid, and the flips are the ones in the pattern.
+  pub pattern-gives : (rows : List ℕ) (r : Answer) → length rows ≡ 8 → Below 8 rows → Decoded rows r
+      → bitXor (joined 8 rows) (r .pattern) ≡ joined 8 (r .grid .rows)
+  pub pattern-flips : (rows : List ℕ) (r : Answer) → Decoded rows r → flipsOf (verdictOf (r .verdict)) ≡ ones (r .pattern)
+  -- The pattern is zero where the grid is clean, and where it is lost.
+  pub pattern-clean : (rows : List ℕ) (d : ℕ) (r : Answer) → Decoded rows r → means (r .verdict) ≡ gives (clean d) → r .pattern ≡ 0
+  pub pattern-refused : (rows : List ℕ) (r : Answer) → Decoded rows r → ((v : Verdict) → means (r .verdict) ≢ gives v) → r .pattern ≡ 0
   -- On refusal the repaired grid is the grid as read.
   pub as-read : (rows : List ℕ) (r : Answer) → length rows ≡ 8 → Below 8 rows → Decoded rows r
       → ((v : Verdict) → means (r .verdict) ≢ gives v) → r .grid .rows ≡ rows
   -- Decoding what was encoded gives the same data, verdict clean.
   pub encoded : (d : ℕ) (rows : List ℕ) (r : Answer) → d < 2 ^ 16 → Encoded d rows → Decoded rows r
       → (means (r .verdict) ≡ gives (clean d)) × (r .grid .rows ≡ rows)
-  -- Up to seven flips of a written grid, checks included, are undone, with the right data and count.
+  -- Up to seven flips of a written grid, checks included, are undone, with the right data and count, and are shown as they were made.
   pub undone : (d p : ℕ) (r : Answer) → d < 2 ^ 16 → p < 2 ^ 64 → ones p ≤ gridCode .radius → Decoded (digits 8 8 (bitXor (codeword d) p)) r
-      → (means (r .verdict) ≡ gives (answered d (ones p))) × (r .grid .rows ≡ digits 8 8 (codeword d))
+      → (means (r .verdict) ≡ gives (answered d (ones p))) × (r .grid .rows ≡ digits 8 8 (codeword d)) × (r .pattern ≡ p)
   -- Eight are always lost, and the grid stays as read.
   pub eight : (d p : ℕ) (r : Answer) → d < 2 ^ 16 → p < 2 ^ 64 → ones p ≡ gridCode .radius + 1 → Decoded (digits 8 8 (bitXor (codeword d) p)) r
       → (means (r .verdict) ≡ refuses 1) × (r .grid .rows ≡ digits 8 8 (bitXor (codeword d) p))

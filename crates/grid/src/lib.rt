@@ -19,11 +19,10 @@
 //
 // The crate grid_code has the parities and what is proved of the code, specs/Calls.antt what each call promises, and specs/Promises.antt
 // what is proved of the calls. As a number a grid has row r in byte r, lowest byte first, and place c of a row in bit c.
-ghost use mathlib.Core.Path.{_≡_};
-ghost use Rattle.codes.specs.Verdict.{answered};
 ghost use Rattle.codes.specs.Promises.{States};
 ghost use Rattle.grid_code.specs.Code.{gridCode};
-ghost use Rattle.grid.specs.Answer.{verdictOf};
+ghost use Rattle.grid_trials.specs.Steps.{Nearby};
+ghost use Rattle.grid_trials.specs.declared.Near.the-variants.{Within};
 ghost use Rattle.grid.specs.Calls.{Encoded, Numbered, Parted, Judged, Decoded};
 use grid_trials::Near;
 
@@ -38,20 +37,12 @@ pub enum Verdict {
     Lost,
 }
 
-// A verdict, with the codeword beside it, or the grid as read where there is no data.
+// A verdict, with the codeword beside it, or the grid as read where there is no data; and the pattern of the flips: the places in which the
+// grid as read differs from that. It is zero where the grid is clean or lost.
 pub struct Answer {
     pub verdict: Verdict,
     pub grid: Grid,
-}
-
-// The verdict where a codeword was found.
-fn answered(value: u16, flips: u32) -> Verdict
-    ensures { λ r. ⌜ verdictOf r ≡ answered value flips ⌝ }
-{
-    if flips == 0 {
-        return Verdict::Clean(value);
-    }
-    Verdict::Mended { data: value, flips }
+    pub pattern: u64,
 }
 
 impl Grid {
@@ -94,6 +85,27 @@ impl Grid {
         grid_code::completed(grid_code::places_of(word)) == word
     }
 
+    // The answer where the codeword that is near enough was found, and the number of places that differ.
+    fn answered(self, number: u64, flips: u32) -> Answer
+        ensures { λ r. ⌜ (Nearby (self .rows) (Within number flips) → Decoded (self .rows) r) ⌝ }
+    {
+        let data = grid_code::data_of(grid_code::places_of(number));
+        let grid = Grid::of_number(number);
+        let pattern = self.number() ^ number;
+        if flips == 0 {
+            return Answer {
+                verdict: Verdict::Clean(data),
+                grid,
+                pattern,
+            };
+        }
+        Answer {
+            verdict: Verdict::Mended { data, flips },
+            grid,
+            pattern,
+        }
+    }
+
     // The verdict on a grid that was read, whatever was done to it, by the trials.
     pub fn mend(self) -> Answer
         ensures { λ r. ⌜ Decoded (self .rows) r ⌝ }
@@ -103,13 +115,10 @@ impl Grid {
             return Answer {
                 verdict: Verdict::Lost,
                 grid: self,
+                pattern: 0,
             };
         };
-        let data = grid_code::data_of(grid_code::places_of(number));
-        Answer {
-            verdict: answered(data, flips),
-            grid: Grid::of_number(number),
-        }
+        self.answered(number, flips)
     }
 
     // The same, and quicker where the grid is clean.
@@ -117,11 +126,7 @@ impl Grid {
         ensures { λ r. ⌜ Decoded (self .rows) r ⌝ }
     {
         if self.is_clean() {
-            let value = grid_code::data_of(grid_code::places_of(self.number()));
-            return Answer {
-                verdict: answered(value, 0),
-                grid: self,
-            };
+            return self.answered(self.number(), 0);
         }
         self.mend()
     }

@@ -2,11 +2,10 @@
 ghost use mathlib.Core.Path.{_≡_};
 ghost use Rattle.refusals.specs.Reply.{numberIn};
 ghost use Rattle.block_code.specs.Code.{blockCode};
-ghost use Rattle.block.specs.Answer.{means, encodeMeans};
-ghost use Rattle.block.specs.Calls.{Encoded, Scrubbed};
-ghost use Rattle.block.specs.declared.BlockAnswer.{BlockAnswer};
+ghost use Rattle.block.specs.Answer.{encodeMeans};
+ghost use Rattle.block.specs.Calls.{Encoded};
 ghost use Rattle.block.specs.declared.EncodeAnswer.{EncodeAnswer};
-ghost use Rattle.harness.specs.Exports.{flipsOrNumber};
+ghost use Rattle.harness.specs.Exports.{BlockScrubbed};
 use block::Block;
 use block::BlockAnswer;
 use block::BlockVerdict;
@@ -23,12 +22,16 @@ pub extern "C" fn block_encode(values: &[u16], words: &mut [u16]) -> u32
     }
 }
 
-// A block scrubbed. The flips are returned, or the number of the refusal from bit 8 on.
+// A block scrubbed, with the pattern of the flips in `pattern`. The flips are returned, or the number of the refusal from bit 8 on.
 #[no_mangle]
-pub extern "C" fn block_scrub(words: &mut [u16]) -> u32
-    ensures { λ r. ⌜ ((a : BlockAnswer) × Scrubbed (now (words .entry)) a (now (words .exit)) × (r ≡ flipsOrNumber (means a (now (words .exit))))) ⌝ }
+pub extern "C" fn block_scrub(words: &mut [u16], pattern: &mut [u16; 38]) -> u32
+    ensures { λ r. ⌜ BlockScrubbed (now (words .entry)) r (now (words .exit)) (now (pattern .exit)) ⌝ }
 {
-    match Block::scrub(words) {
+    let scrub = Block::scrub(words);
+    let p = scrub.pattern;
+    *pattern = p;
+    let answer = scrub.answer;
+    match answer {
         BlockAnswer::Done(verdict) => match verdict {
             BlockVerdict::Clean => 0,
             BlockVerdict::Mended { flips } => flips,

@@ -69,17 +69,25 @@ fn packed(verdict: Verdict) -> u64
     }
 }
 
-// The answers on the grids with the numbers `words`: each verdict as one number, and the number of the grid beside it. Three slices of one
-// length, or nothing is done.
+// The answers on the grids with the numbers `words`: each verdict as one number, and beside it the number of the grid and the pattern. Four
+// slices of one length, or nothing is done.
 #[no_mangle]
-pub extern "C" fn grid_decode(words: &[u64], verdicts: &mut [u64], repaired: &mut [u64])
-    ensures { λ r. ⌜ Decoding (now (words .entry)) (now (verdicts .entry)) (now (repaired .entry)) (now (verdicts .exit)) (now (repaired .exit)) ⌝ }
+pub extern "C" fn grid_decode(
+    words: &[u64],
+    verdicts: &mut [u64],
+    repaired: &mut [u64],
+    patterns: &mut [u64],
+)
+    ensures { λ r. ⌜ Decoding (now (words .entry)) (now (verdicts .entry)) (now (repaired .entry)) (now (patterns .entry)) (now (verdicts .exit)) (now (repaired .exit)) (now (patterns .exit)) ⌝ }
 {
     let n = words.len();
     if verdicts.len() != n {
         return;
     }
     if repaired.len() != n {
+        return;
+    }
+    if patterns.len() != n {
         return;
     }
     let mut i: usize = 0;
@@ -89,6 +97,7 @@ pub extern "C" fn grid_decode(words: &[u64], verdicts: &mut [u64], repaired: &mu
         let verdict = answer.verdict;
         verdicts[i] = packed(verdict);
         repaired[i] = grid.number();
+        patterns[i] = answer.pattern;
         i += 1;
     }
 }

@@ -12,8 +12,9 @@ use Rattle.refusals.specs.declared.Place.the-variants.{At, Nowhere}
 use Rattle.refusals.specs.Reply.{Number, numberOf, placeOf, Reply, gives, refused}
 use Rattle.image.specs.declared.CheckAnswer.{CheckAnswer}
 use Rattle.image.specs.Answer.{means as checkMeans}
+use Rattle.card_scrub.specs.declared.Tallies.{Tallies}
 use Rattle.card_scrub.specs.declared.ScrubAnswer.{ScrubAnswer}
-use Rattle.card_scrub.specs.Answer.{BothTallies, means as scrubMeans}
+use Rattle.card_scrub.specs.Answer.{means as scrubMeans}
 use Rattle.card_scrub.specs.Calls.{Scrubbed}
 use Rattle.card_write.specs.declared.WriteAnswer.{WriteAnswer}
 use Rattle.card_write.specs.Answer.{means as writeMeans}
@@ -57,16 +58,22 @@ writeShown a = shown (λ k. packed 0 k 0) (writeMeans a)
 abbrev pub readShown : ReadAnswer → ℕ
 readShown a = shown (λ v. packed 0 (v .title) (v .grids)) (readMeans a)
 
--- the five numbers of the grids and the five of the blocks, where tallies are given
-abbrev pub tallied : Reply BothTallies → List ℕ → List ℕ
+-- the five numbers of the grids and the five of the blocks, where tallies are given, ..
+abbrev pub tallied : Reply Tallies → List ℕ → List ℕ
 tallied (gives t) before =
     let g = t .grids in
     let b = t .blocks in
-    laid (g .words ∷ g .clean ∷ g .mended ∷ g .lost ∷ g .flips ∷ b .words ∷ b .clean ∷ b .mended ∷ b .lost ∷ b .flips ∷ []) before
+    laid (g .grids ∷ g .clean ∷ g .mended ∷ g .lost ∷ g .flips ∷ b .blocks ∷ b .clean ∷ b .mended ∷ b .lost ∷ b .flips ∷ []) before
 tallied (refused k) before = before
 
+-- .. and the pattern
+abbrev pub patternShown : Reply Tallies → ℕ → ℕ
+patternShown (gives t) before = t .grids .pattern
+patternShown (refused k) before = before
+
 -- With ten places for the numbers: what `card::scrub` gives. Else 255, and nothing is written.
-pub data Exported (image tallies : List ℕ) (r : ℕ) (image′ tallies′ : List ℕ) : Type 0 where
+pub data Exported (image tallies : List ℕ) (pattern r : ℕ) (image′ tallies′ : List ℕ) (pattern′ : ℕ) : Type 0 where
   scrubs : length tallies ≡ 10 → (a : ScrubAnswer) → Scrubbed image a image′ → r ≡ scrubShown a → tallies′ ≡ tallied (scrubMeans a) tallies
-      → Exported image tallies r image′ tallies′
-  stays : length tallies ≢ 10 → r ≡ packed 255 0 0 → image′ ≡ image → tallies′ ≡ tallies → Exported image tallies r image′ tallies′
+      → pattern′ ≡ patternShown (scrubMeans a) pattern → Exported image tallies pattern r image′ tallies′ pattern′
+  stays : length tallies ≢ 10 → r ≡ packed 255 0 0 → image′ ≡ image → tallies′ ≡ tallies → pattern′ ≡ pattern
+      → Exported image tallies pattern r image′ tallies′ pattern′

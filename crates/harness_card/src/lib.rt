@@ -55,11 +55,11 @@ pub extern "C" fn image_check(image: &[u8]) -> u64
     }
 }
 
-// The five numbers of the grids and the five of the blocks go to `tallies`, which has ten places; 255 is returned where it has another
-// length, and then nothing is done.
+// The five numbers of the grids and the five of the blocks go to `tallies`, which has ten places, and the last mended grid's pattern to
+// `pattern`; 255 is returned where `tallies` has another length, and then nothing is done.
 #[no_mangle]
-pub extern "C" fn image_scrub(image: &mut [u8], tallies: &mut [u32]) -> u64
-    ensures { λ r. ⌜ Exported (now (image .entry)) (now (tallies .entry)) r (now (image .exit)) (now (tallies .exit)) ⌝ }
+pub extern "C" fn image_scrub(image: &mut [u8], tallies: &mut [u32], pattern: &mut u64) -> u64
+    ensures { λ r. ⌜ Exported (now (image .entry)) (now (tallies .entry)) (now (pattern .entry)) r (now (image .exit)) (now (tallies .exit)) (now (pattern .exit)) ⌝ }
 {
     if tallies.len() != 10 {
         return packed(255, 0, 0);
@@ -78,6 +78,7 @@ pub extern "C" fn image_scrub(image: &mut [u8], tallies: &mut [u32]) -> u64
             tallies[7] = blocks.mended;
             tallies[8] = blocks.lost;
             tallies[9] = blocks.flips;
+            *pattern = grids.pattern;
             packed(0, 0, 0)
         }
         ScrubAnswer::Refused(why) => refused(why),

@@ -16,7 +16,13 @@ abbrev pub shown : PageAnswer → List ℕ → List ℕ
 shown (Done t) before = laid (t .grids ∷ t .clean ∷ t .mended ∷ t .lost ∷ t .flips ∷ []) before
 shown (Refused why) before = before
 
+-- .. and its pattern
+abbrev pub patternShown : PageAnswer → ℕ → ℕ
+patternShown (Done t) before = t .pattern
+patternShown (Refused why) before = before
+
 -- With five places for the numbers: what `page::scrub` gives. Else 255, and nothing is written.
-pub data Exported (page tally : List ℕ) (r : ℕ) (page′ tally′ : List ℕ) : Type 0 where
-  scrubs : length tally ≡ 5 → (a : PageAnswer) → Scrubbed page a page′ → r ≡ numberIn (means a) → tally′ ≡ shown a tally → Exported page tally r page′ tally′
-  stays : length tally ≢ 5 → r ≡ 255 → page′ ≡ page → tally′ ≡ tally → Exported page tally r page′ tally′
+pub data Exported (page tally : List ℕ) (pattern r : ℕ) (page′ tally′ : List ℕ) (pattern′ : ℕ) : Type 0 where
+  scrubs : length tally ≡ 5 → (a : PageAnswer) → Scrubbed page a page′ → r ≡ numberIn (means a) → tally′ ≡ shown a tally
+      → pattern′ ≡ patternShown a pattern → Exported page tally pattern r page′ tally′ pattern′
+  stays : length tally ≢ 5 → r ≡ 255 → page′ ≡ page → tally′ ≡ tally → pattern′ ≡ pattern → Exported page tally pattern r page′ tally′ pattern′

@@ -3,11 +3,11 @@
 ghost use Rattle.harness_page.specs.Exports.{Exported};
 use page::PageAnswer;
 
-// A page scrubbed, with the five numbers in `tally`, which has five places. The number of the refusal is returned, 0 where there is none,
-// and 255 where `tally` has another length: then nothing is done.
+// A page scrubbed, with the five numbers in `tally`, which has five places, and the last mended grid's pattern in `pattern`. The number of
+// the refusal is returned, 0 where there is none, and 255 where `tally` has another length: then nothing is done.
 #[no_mangle]
-pub extern "C" fn page_scrub(page: &mut [u64], tally: &mut [u32]) -> u32
-    ensures { λ r. ⌜ Exported (now (page .entry)) (now (tally .entry)) r (now (page .exit)) (now (tally .exit)) ⌝ }
+pub extern "C" fn page_scrub(page: &mut [u64], tally: &mut [u32], pattern: &mut u64) -> u32
+    ensures { λ r. ⌜ Exported (now (page .entry)) (now (tally .entry)) (now (pattern .entry)) r (now (page .exit)) (now (tally .exit)) (now (pattern .exit)) ⌝ }
 {
     if tally.len() != 5 {
         return 255;
@@ -19,6 +19,7 @@ pub extern "C" fn page_scrub(page: &mut [u64], tally: &mut [u32]) -> u32
             tally[2] = t.mended;
             tally[3] = t.lost;
             tally[4] = t.flips;
+            *pattern = t.pattern;
             0
         }
         PageAnswer::Refused(why) => why.number(),

@@ -9,9 +9,10 @@ use lib.Seq.{length-take-le}
 use Rattle.words.specs.Digits.{digits, joined}
 use Rattle.words.proofs.Digits.{joined-digits}
 use Rattle.words.proofs.Lists.{partly, partly-at, partly-step}
-use Rattle.codes.specs.Verdict.{Verdict, clean, flipsOf, verdict, repaired, scrubbed}
+use Rattle.codes.specs.Verdict.{Verdict, clean, flipsOf, verdict, repaired, scrubbed, patternOf}
 use Rattle.codes.specs.Tally.{isClean, isMended, isLost}
 use Rattle.codes.proofs.Promises.{clean-word}
+use Rattle.codes.proofs.Last.{last-step}
 use Rattle.codes.proofs.Tally.{one-kind, sum-bound, sum-step, few-flips}
 use Rattle.grid_code.specs.Code.{gridCode}
 use Rattle.grid_code.proofs.Promises as grid
@@ -26,14 +27,14 @@ use Rattle.page.specs.declared.Tally.{Tally}
 -- a clean grid stays as it is, and counts as any clean one
 pub decoded-clean : (w : ℕ) (rows : List ℕ) → w < 2 ^ 64 → rows ≡ digits 8 8 w → Judged rows true
     → (w ≡ scrubbed gridCode w)
-    × ((t : Tally) → (counted t (clean 0) ≡ counted t (verdict gridCode w)) × (Roomy t (verdict gridCode w) → Roomy t (clean 0)))
+    × ((t : Tally) → (counted t (clean 0) 0 ≡ counted t (verdict gridCode w) (patternOf gridCode w)) × (Roomy t (verdict gridCode w) → Roomy t (clean 0)))
 decoded-clean w rows l e j =
     let same : joined 8 rows ≡ w = ap (joined 8) e ∙ joined-digits 8 8 w l in
     let (d, p) = judged-clean rows j in
     let v : verdict gridCode w ≡ clean d = sym (ap (verdict gridCode) same) ∙ p in (
       clean-word gridCode (grid.promised .verdicts) w d v .1 ∙ sym (ap (repaired gridCode w) v),
       λ t. (
-        ap (counted t) (sym v),
+        ap (λ u. counted t u (patternOf gridCode w)) (sym v),
         λ r.
             let s : Roomy t (clean d) = subst (Roomy t) v r in
             record { words = s .words; clean = s .clean; mended = s .mended; lost = s .lost; flips = s .flips },
@@ -50,13 +51,11 @@ module _ (page now : List ℕ) (i : ℕ) (t : Tally) (inside : i < length page) 
   pub turn-page : (w : ℕ) → w ≡ scrubbed gridCode (getD now i 0) → set now i w ≡ partly (scrubbed gridCode) (i + 1) page
   turn-page w e = rw (e, read, so-far) (partly-step (scrubbed gridCode) page i inside)
 
-  same-verdict : verdict gridCode (getD now i 0) ≡ verdict gridCode (getD page i 0)
-  same-verdict = ap (verdict gridCode) read
-
-  pub turn-tally : counted t (verdict gridCode (getD now i 0)) ≡ gridTally (take (i + 1) page)
+  pub turn-tally : counted t (verdict gridCode (getD now i 0)) (patternOf gridCode (getD now i 0)) ≡ gridTally (take (i + 1) page)
   turn-tally =
-      rw (counts, same-verdict)
+      rw (counts, read)
       (simp (
+        last-step gridCode page i inside,
         sum-step gridCode isClean page i inside,
         sum-step gridCode isMended page i inside,
         sum-step gridCode isLost page i inside,
@@ -67,7 +66,7 @@ module _ (page now : List ℕ) (i : ℕ) (t : Tally) (inside : i < length page) 
 
   pub turn-roomy : Roomy t (verdict gridCode (getD now i 0))
   turn-roomy =
-      rw (counts, same-verdict)
+      rw (counts, read)
       (let u : Verdict = verdict gridCode (getD page i 0) in
       let n : length (take i page) ≡ i = length-take-le i page (omega arith) in
       record {

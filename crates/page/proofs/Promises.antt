@@ -14,12 +14,12 @@ use Rattle.codes.specs.Verdict.{clean, flipsOf, verdict, repaired, scrubbed}
 use Rattle.refusals.specs.declared.Refusal.the-variants.{Length}
 use Rattle.refusals.specs.Reply.{gives}
 use Rattle.codes.specs.Tally as codes
-use Rattle.codes.specs.Tally.{sumBy, Tally, AddsUp, Again, TallyPromises}
+use Rattle.codes.specs.Tally.{sumBy, lastFrom, AddsUp, Again, TallyPromises}
 use Rattle.refusals.proofs.Promises.{nothing-given}
 use Rattle.codes.proofs.Tally.{unflipped, tallies}
 use Rattle.grid_code.specs.Code.{gridCode}
 use Rattle.grid_code.proofs.Promises as grid
-use Rattle.page.specs.declared.Tally as grids
+use Rattle.page.specs.declared.Tally.{Tally}
 use Rattle.page.specs.declared.PageAnswer.{PageAnswer}
 use Rattle.page.specs.declared.PageAnswer.the-variants.{Done, Refused}
 use Rattle.page.specs.Answer.{tallyIn, means}
@@ -43,7 +43,7 @@ refused {page} more s =
     )
 
 -- what was done, ..
-pub was-done : (page exit : List ℕ) (t : grids.Tally) → Scrubbed page (Done t) exit
+pub was-done : (page exit : List ℕ) (t : Tally) → Scrubbed page (Done t) exit
     → (length page ≤ 512) × (t ≡ gridTally page) × (exit ≡ map (scrubbed gridCode) page)
 was-done page exit t s = go (decLe (length page) 512)
   where
@@ -53,11 +53,11 @@ was-done page exit t s = go (decLe (length page) 512)
 
 -- .. and is given
 given : (page exit : List ℕ) (r : PageAnswer) (t : Tally) → Scrubbed page r exit → means r ≡ gives t
-    → (length page ≤ 512) × (t ≡ codes.tallyOf gridCode page) × (exit ≡ map (scrubbed gridCode) page)
+    → (length page ≤ 512) × (t ≡ gridTally page) × (exit ≡ map (scrubbed gridCode) page)
 given page exit (Done u) t s e =
     let (few, is, x) = was-done page exit u s in
-    let same : tallyIn u ≡ t = cc in
-    (few, sym same ∙ ap tallyIn is, x)
+    let same : u ≡ t = cc in
+    (few, sym same ∙ is, x)
 given page exit (Refused why) t s e = nothing-given why e
 
 pub laws : TallyPromises gridCode
@@ -78,20 +78,23 @@ length-kept page exit r s = go (decLe (length page) 512)
 -- ---- the second scrub
 
 again : (page once twice : List ℕ) (r s : PageAnswer) (t : Tally) → Scrubbed page r once → means r ≡ gives t → Scrubbed once s twice
-    → (u : Tally) × (means s ≡ gives u) × Again t u × (twice ≡ once)
+    → (u : Tally) × (means s ≡ gives u) × Again (tallyIn t) (tallyIn u) × (u .pattern ≡ 0) × (twice ≡ once)
 again page once twice r s t p e q =
     let (few, is, a) = given page once r t p e in
-    let (v, b) = done (subst (λ (n : ℕ). n ≤ 512) (sym (length-kept page once r p)) few) q in (
-      codes.tallyOf gridCode once,
+    let (v, b) = done (subst (λ (n : ℕ). n ≤ 512) (sym (length-kept page once r p)) few) q in
+    let second : Again (tallyIn t) (codes.tallyOf gridCode once) =
+    subst (λ ws. Again (tallyIn t) (codes.tallyOf gridCode ws)) (sym a)
+    (subst (λ t. Again (tallyIn t) (codes.tallyOf gridCode (map (scrubbed gridCode) page))) (sym is) (laws .again page)) in (
+      gridTally once,
       ap means v,
-      subst (λ ws. Again t (codes.tallyOf gridCode ws)) (sym a)
-          (subst (λ t. Again t (codes.tallyOf gridCode (map (scrubbed gridCode) page))) (sym is) (laws .again page)),
+      second,
+      laws .no-last once (second .none-mended),
       b ∙ ap (map (scrubbed gridCode)) a ∙ map-twice (scrubbed gridCode) (laws .unchanged) page ∙ sym a,
     )
 
 empty : (exit : List ℕ) (r : PageAnswer) → Scrubbed [] r exit
-    → (means r ≡ gives (record { words = 0; clean = 0; mended = 0; lost = 0; flips = 0 })) × (exit ≡ [])
-unfolding sumBy
+    → (means r ≡ gives (record { grids = 0; clean = 0; mended = 0; lost = 0; flips = 0; pattern = 0 })) × (exit ≡ [])
+unfolding sumBy lastFrom
 empty exit r s = (ap means (done (lit≤ tt) s .0), done (lit≤ tt) s .1)
 
 pub promised : PagePromises
@@ -103,7 +106,11 @@ promised = record {
   mended-replaced = λ w d n e. ap (repaired gridCode w) e;
   clean-kept = clean-kept;
   lost-kept = λ w e. ap (repaired gridCode w) e;
-  sum = λ page exit r t s e. subst AddsUp (sym (given page exit r t s e .1)) (laws .all page);
+  sum = λ page exit r t s e. subst (λ t. AddsUp (tallyIn t)) (sym (given page exit r t s e .1)) (laws .all page);
+  last = λ page exit r t i s e h. ap (λ t. t .pattern) (given page exit r t s e .1) ∙ laws .last page i h;
+  no-last = λ page exit r t s e z.
+      let is = given page exit r t s e .1 in
+      ap (λ t. t .pattern) is ∙ laws .no-last page (sym (ap (λ t. t .mended) is) ∙ z);
   again = again;
   empty = empty;
 }

@@ -5,10 +5,10 @@ use Rattle.page.specs.declared.Tally.{Tally}
 use Rattle.page.specs.declared.PageAnswer.{PageAnswer}
 use Rattle.page.specs.declared.PageAnswer.the-variants.{Done, Refused}
 
--- the five numbers
+-- the five numbers, as of any code
 abbrev pub tallyIn : Tally → codes.Tally
 tallyIn t = record { words = t .grids; clean = t .clean; mended = t .mended; lost = t .lost; flips = t .flips }
 
-abbrev pub means : PageAnswer → Reply codes.Tally
-means (Done t) = gives (tallyIn t)
+abbrev pub means : PageAnswer → Reply Tally
+means (Done t) = gives t
 means (Refused why) = refusal why

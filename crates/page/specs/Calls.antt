@@ -17,16 +17,17 @@ use Rattle.page.specs.declared.PageAnswer.the-variants.{Done, Refused}
 abbrev pub mostGrids : ℕ
 mostGrids = 512
 
--- the five numbers, of grids
-abbrev pub ofGrids : codes.Tally → Tally
-ofGrids t = record { grids = t .words; clean = t .clean; mended = t .mended; lost = t .lost; flips = t .flips }
+-- the five numbers, of grids, and a pattern
+abbrev pub ofGrids : codes.Tally → ℕ → Tally
+ofGrids t p = record { grids = t .words; clean = t .clean; mended = t .mended; lost = t .lost; flips = t .flips; pattern = p }
 
+-- those of a page, and the pattern of its last mended grid
 abbrev pub gridTally : List ℕ → Tally
-gridTally page = ofGrids (codes.tallyOf gridCode page)
+gridTally page = ofGrids (codes.tallyOf gridCode page) (codes.lastPattern gridCode page)
 
 -- `Tally::none`: that of no grids.
 pub record NoGrids (r : Tally) : Type 0 where
-  pub answer : r ≡ record { grids = 0; clean = 0; mended = 0; lost = 0; flips = 0 }
+  pub answer : r ≡ record { grids = 0; clean = 0; mended = 0; lost = 0; flips = 0; pattern = 0 }
 
 -- `page::scrub`: 0 to 512 grids are accepted. Each mended grid is replaced by its codeword, and clean and lost ones stay as they are. A
 -- longer page is refused, and nothing is written.

@@ -6,7 +6,7 @@ ghost use mathlib.Core.Path.{_≡_};
 ghost use mathlib.Core.List.{map};
 ghost use Prim.Native.Nat.{_≤_};
 ghost use lib.ListN.{length};
-ghost use Rattle.codes.specs.Verdict.{verdict, scrubbed};
+ghost use Rattle.codes.specs.Verdict.{verdict, scrubbed, patternOf};
 ghost use Rattle.grid_code.specs.Code.{gridCode};
 ghost use Rattle.grid.specs.Answer.{verdictOf};
 ghost use Rattle.page.specs.Calls.{mostGrids, gridTally, NoGrids, Scrubbed};
@@ -15,13 +15,15 @@ use grid::Grid;
 use grid::Verdict;
 use refusals::Refusal;
 
-// The five numbers of a scrub. Flips is the sum over mended grids.
+// The five numbers of a scrub; flips is the sum over mended grids. And beside them, which is no sixth number, the pattern of the last
+// mended grid: the places that were flipped there. It is zero where none is mended.
 pub struct Tally {
     pub grids: u32,
     pub clean: u32,
     pub mended: u32,
     pub lost: u32,
     pub flips: u32,
+    pub pattern: u64,
 }
 
 // The most grids of a page.
@@ -50,13 +52,14 @@ impl Tally {
             mended: 0,
             lost: 0,
             flips: 0,
+            pattern: 0,
         }
     }
 
-    // One more verdict.
-    fn counted(self, verdict: Verdict) -> Tally
+    // One more verdict, and its pattern, which is kept where it is mended.
+    fn counted(self, verdict: Verdict, pattern: u64) -> Tally
         requires { ⌜ Roomy self (verdictOf verdict) ⌝ }
-        ensures { λ r. ⌜ r ≡ counted self (verdictOf verdict) ⌝ }
+        ensures { λ r. ⌜ r ≡ counted self (verdictOf verdict) pattern ⌝ }
     {
         let mut next = self;
         next.grids = next.grids + 1;
@@ -67,6 +70,7 @@ impl Tally {
             Verdict::Mended { data: _, flips } => {
                 next.mended = next.mended + 1;
                 next.flips = next.flips + flips;
+                next.pattern = pattern;
             }
             Verdict::Lost => {
                 next.lost = next.lost + 1;
@@ -78,13 +82,13 @@ impl Tally {
     // One more grid, put right and counted. The data of a clean one is not asked for.
     fn with_grid(self, word: u64) -> Step
         requires { ⌜ Roomy self (verdict gridCode word) ⌝ }
-        ensures { λ r. ⌜ (r .word ≡ scrubbed gridCode word) × (r .tally ≡ counted self (verdict gridCode word)) ⌝ }
+        ensures { λ r. ⌜ (r .word ≡ scrubbed gridCode word) × (r .tally ≡ counted self (verdict gridCode word) (patternOf gridCode word)) ⌝ }
     {
         let grid = Grid::of_number(word);
         if grid.is_clean() {
             return Step {
                 word,
-                tally: self.counted(Verdict::Clean(0)),
+                tally: self.counted(Verdict::Clean(0), 0),
             };
         }
         let answer = grid.mend();
@@ -93,7 +97,7 @@ impl Tally {
         let number = repaired.number();
         Step {
             word: number,
-            tally: self.counted(verdict),
+            tally: self.counted(verdict, answer.pattern),
         }
     }
 }

@@ -16,8 +16,9 @@ use Rattle.words.proofs.Digits.{length-digits, digits-joined}
 use Rattle.words.proofs.Bytes.{length-words, words-two, bytes-append, bytes-words, words-below}
 use Rattle.refusals.specs.declared.Refusal.the-variants.{Length}
 use Rattle.codes.specs.Verdict.{Verdict, clean, mended, lost, flipsOf, verdict, scrubbed}
-use Rattle.codes.specs.Tally.{sumBy, tallyOfOne, Tally as Counted}
-use Rattle.codes.specs.Steps.{plus, Small}
+use Rattle.codes.specs.Tally.{sumBy, lastFrom, tallyOfOne, Tally as Counted}
+use Rattle.codes.specs.Steps.{plus, Small, later}
+use Rattle.codes.proofs.Last.{last-two}
 use Rattle.codes.proofs.Tally.{unflipped, none-flipped, tally-append, small-sum, tallies}
 use Rattle.grid_code.specs.Code.{gridCode}
 use Rattle.grid_code.proofs.Promises as grid
@@ -31,6 +32,7 @@ use Rattle.block_code.proofs.Promises as blocks
 use Rattle.block.specs.Answer.{answerOf}
 use Rattle.block.specs.Calls as block
 use Rattle.block.specs.declared.BlockVerdict.the-variants.{Clean, Mended}
+use Rattle.block.specs.declared.Scrub.{Scrub}
 use Rattle.block.specs.declared.BlockAnswer.{BlockAnswer}
 use Rattle.block.specs.declared.BlockAnswer.the-variants.{Done, Refused}
 use Rattle.fields.specs.Fields.{isGrids}
@@ -75,7 +77,7 @@ module _ (value page after : List ℕ) (n : ℕ) (t : Tally) (fits : length valu
 -- ---- two parts of a value
 
 pub tally-two : (a b : List ℕ) → gridTally (a ++ b) ≡ bothGrids (gridTally a) (gridTally b)
-tally-two a b = ap ofGrids (tally-append gridCode a b)
+tally-two a b = ap₂ ofGrids (tally-append gridCode a b) (last-two gridCode (grid.promised .verdicts) a b)
 
 -- both scrubbed, each by itself
 pub grids-two : (a b a′ b′ : List ℕ) (r s : Tally) → length a % 8 ≡ 0 → length b % 8 ≡ 0
@@ -104,7 +106,7 @@ grids-roomy a b a′ b′ r s l m x y =
 
 -- of no grids
 pub no-grids : (r : Tally) → NoGrids r → ScrubbedGrids [] r []
-unfolding sumBy wordsIn bytesOf
+unfolding sumBy lastFrom wordsIn bytesOf
 no-grids r h = record { answer = h .answer; after = refl }
 
 -- where there is room for each number, nothing wraps
@@ -118,7 +120,7 @@ whole-sum t room = λ i. record {
 }
 
 added-up : (a b r : Tally) → RoomyGrids a b → Added a b r → r ≡ bothGrids a b
-added-up a b r room h = h .answer ∙ ap ofGrids (whole-sum (plus (tallyIn a) (tallyIn b)) room)
+added-up a b r room h = h .answer ∙ ap (λ t. ofGrids t (later (a .pattern) (b .pattern))) (whole-sum (plus (tallyIn a) (tallyIn b)) room)
 
 -- One page more. Of the value as it was, the bytes before `at` are scrubbed, and those from there on are as they were.
 module _ (value now : List ℕ) (at n m : ℕ) (t r u : Tally) (page : List ℕ) (few : length value ≤ 4096) (inside : at + 8 * n ≤ length value)
@@ -174,7 +176,7 @@ module _ (value exit : List ℕ) (r : Tally) where
   fitting-grids h x = record { answer = x .answer ∙ (rw h); after = x .after ∙ (rw h) }
 
 pub other-grids : (value : List ℕ) (r : Tally) → isGrids (length value) ≡ false → NoGrids r → AnyGrids value r value
-unfolding sumBy
+unfolding sumBy lastFrom
 other-grids value r h none = record { answer = rw h (none .answer); after = rw h }
 
 module _ (value exit : List ℕ) (r : Blocks) (h : length value ≡ 76) where
@@ -202,7 +204,7 @@ answered (clean d) = refl
 answered (mended d n) = refl
 answered lost = refl
 
-module _ (value words after : List ℕ) (r : BlockAnswer) (fits : length value ≡ 76) (bytes : Below 8 value) (taken : words ≡ wordsIn 2 38 value)
+module _ (value words after : List ℕ) (r : Scrub) (fits : length value ≡ 76) (bytes : Below 8 value) (taken : words ≡ wordsIn 2 38 value)
     (done : block.Scrubbed words r after) where
   w : ℕ
   w = joined 16 (wordsIn 2 38 value)
@@ -210,13 +212,13 @@ module _ (value words after : List ℕ) (r : BlockAnswer) (fits : length value �
   thirty-eight : length words ≡ 38
   thirty-eight = ap length taken ∙ length-words 2 38 value
 
-  told : r ≡ answerOf (verdict blockCode w)
+  told : r .answer ≡ answerOf (verdict blockCode w)
   unfolding w
   told =
       done .answer ∙ ap (λ (b : Bool). choose b (answerOf (verdict blockCode (joined 16 words))) (Refused Length)) (eq-eqb (length words) 38 thirty-eight)
       ∙ ap (λ l. answerOf (verdict blockCode (joined 16 l))) taken
 
-  answer : ofAnswer r ≡ blockTally (w ∷ [])
+  answer : ofAnswer (r .answer) ≡ blockTally (w ∷ [])
   answer = ap ofAnswer told ∙ answered (verdict blockCode w) ∙ sym (ap ofBlocks (tallies blockCode (blocks.promised .verdicts) .one w))
 
   is-after : after ≡ digits 16 38 (scrubbed blockCode w)
@@ -226,7 +228,7 @@ module _ (value words after : List ℕ) (r : BlockAnswer) (fits : length value �
       ∙ ap {B = List ℕ} (λ (b : Bool). choose b (digits 16 38 (scrubbed blockCode (joined 16 words))) words) (eq-eqb (length words) 38 thirty-eight)
       ∙ ap (λ l. digits 16 38 (scrubbed blockCode (joined 16 l))) taken
 
-  pub words-written : (exit : List ℕ) → Put 2 after value exit → ScrubbedBlock value (ofAnswer r) exit
+  pub words-written : (exit : List ℕ) → Put 2 after value exit → ScrubbedBlock value (ofAnswer (r .answer)) exit
   unfolding w
   words-written exit e = record {
     answer = answer;
@@ -235,7 +237,7 @@ module _ (value words after : List ℕ) (r : BlockAnswer) (fits : length value �
         ∙ ap (bytesOf 2) is-after;
   }
 
-  pub words-kept : ofAnswer r .flips ≡ 0 → ScrubbedBlock value (ofAnswer r) value
+  pub words-kept : ofAnswer (r .answer) .flips ≡ 0 → ScrubbedBlock value (ofAnswer (r .answer)) value
   unfolding w
   words-kept z = record {
     answer = answer;

@@ -9,7 +9,7 @@ use Rattle.words.specs.Digits.{digits, joined}
 use Rattle.words.specs.Bytes.{wordsIn, bytesOf}
 use Rattle.codes.specs.Verdict.{scrubbed}
 use Rattle.codes.specs.Tally.{Tally as Counted}
-use Rattle.codes.specs.Steps.{plus, Small}
+use Rattle.codes.specs.Steps.{plus, Small, later}
 use Rattle.grid_code.specs.Code.{gridCode}
 use Rattle.page.specs.declared.Tally.{Tally}
 use Rattle.page.specs.Answer.{tallyIn}
@@ -36,12 +36,17 @@ wrapped t = record {
   flips = t .flips % 2 ^ 32;
 }
 
+-- of grids that come in two parts: the sum, and the pattern that is passed on, ..
 abbrev pub bothGrids : Tally → Tally → Tally
-bothGrids a b = ofGrids (plus (tallyIn a) (tallyIn b))
+bothGrids a b = ofGrids (plus (tallyIn a) (tallyIn b)) (later (a .pattern) (b .pattern))
+
+-- .. in numbers of 32 bits
+abbrev pub added : Tally → Tally → Tally
+added a b = ofGrids (wrapped (plus (tallyIn a) (tallyIn b))) (later (a .pattern) (b .pattern))
 
 -- `value_scrub::both`: two tallies, added up.
 pub record Added (a b r : Tally) : Type 0 where
-  pub answer : r ≡ ofGrids (wrapped (plus (tallyIn a) (tallyIn b)))
+  pub answer : r ≡ added a b
 
 -- there is room for each sum
 abbrev pub RoomyGrids : Tally → Tally → Type 0

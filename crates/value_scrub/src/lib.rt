@@ -6,6 +6,7 @@
 ghost use mathlib.Core.Path.{_≡_};
 ghost use Prim.Native.Nat.{_*_, _%_, _≤_, _<_};
 ghost use lib.ListN.{length};
+ghost use Rattle.codes.specs.Steps.{later};
 ghost use Rattle.page.specs.Calls.{mostGrids};
 ghost use Rattle.fields.specs.Fields.{gridsMost, blockBytes};
 ghost use Rattle.value_scrub.specs.Steps.{NoBlocks, Added, ScrubbedGrids, ScrubbedBlock, AnyGrids, AnyBlock, pageGrids};
@@ -40,7 +41,17 @@ pub fn no_blocks() -> Blocks
     }
 }
 
-// Two tallies, added up. The sums wrap, so that there are no two tallies that it does not accept.
+// Of the patterns that two parts pass on, the one that both do: the second, unless nothing was mended there. A mended grid's is never zero.
+fn later(before: u64, behind: u64) -> u64
+    ensures { λ r. ⌜ r ≡ later before behind ⌝ }
+{
+    if behind == 0 {
+        return before;
+    }
+    behind
+}
+
+// The tallies of two parts, one behind the other, added up. The sums wrap, so that there are no two tallies that it does not accept.
 pub fn both(here: Tally, there: Tally) -> Tally
     ensures { λ r. ⌜ Added here there r ⌝ }
 {
@@ -50,6 +61,7 @@ pub fn both(here: Tally, there: Tally) -> Tally
         mended: std::num::wrapping_add_u32(here.mended, there.mended),
         lost: std::num::wrapping_add_u32(here.lost, there.lost),
         flips: std::num::wrapping_add_u32(here.flips, there.flips),
+        pattern: later(here.pattern, there.pattern),
     }
 }
 
@@ -116,7 +128,9 @@ fn by_words(value: &mut [u8], words: &mut [u16]) -> Blocks
     ensures { λ r. ⌜ ScrubbedBlock (now (value .entry)) r (now (value .exit)) ⌝ }
 {
     values::words(value, words);
-    match Block::scrub(words) {
+    let scrub = Block::scrub(words);
+    let answer = scrub.answer;
+    match answer {
         BlockAnswer::Done(verdict) => match verdict {
             BlockVerdict::Clean => Blocks {
                 blocks: 1,

@@ -1,4 +1,4 @@
--- `harness_card::image_scrub` meets its contract: ten stores behind the scrub. Assumes nothing.
+-- `harness_card::image_scrub` meets its contract: the stores behind the scrub. Assumes nothing.
 use mathlib.Core.Path.{_≡_, refl, sym, ap, _∙_}
 use mathlib.Core.List.{[], _∷_}
 use native.Mathlib.Omega.{arith}
@@ -7,12 +7,12 @@ use denote.Ref.{now}
 use borrow.Author.Needs.{needs}
 use Rattle.words.proofs.Turns.{stored}
 use Rattle.card_scrub.specs.Answer.{means}
-use Rattle.harness_card.specs.Exports.{scrubShown, tallied, scrubs, stays}
+use Rattle.harness_card.specs.Exports.{scrubShown, tallied, patternShown, scrubs, stays}
 use Rattle.harness_card.proofs.image_scrub.Statement.{statement}
 use Rattle.harness_card.proofs.image_scrub.Tie as tie
 
 returns : tie.Need-returns
-returns c = stays (c .before .if1 .taken) (c .packed .ensures) refl refl
+returns c = stays (c .before .if1 .taken) (c .packed .ensures) refl refl refl
 
 returns-2 : tie.Need-returns-2
 returns-2 c =
@@ -26,15 +26,17 @@ returns-2 c =
     (stored (g .grids ∷ g .clean ∷ g .mended ∷ g .lost ∷ g .flips ∷ b .blocks ∷ b .clean ∷ b .mended ∷ b .lost ∷ b .flips ∷ [])
     (now (a .tallies)) (omega arith)
     ∙ sym (ap (λ r. tallied (means r) (now (a .tallies))) (is .1)))
+    (sym (ap (λ r. patternShown (means r) (now (a .pattern))) (is .1)))
 
 returns-3 : tie.Need-returns-3
 returns-3 c =
-    let tallies = now (c .before .before .before .before .before .before .before .before .before .before .before .args .tallies) in
+    let a = c .before .before .before .before .before .before .before .before .before .before .before .args in
+    let tallies = now (a .tallies) in
     let s = c .before .before .before .before .before .before .scrub in
     let why = c .before .before .why .given in
     let ten : length tallies ≡ 10 = omega arith in
     scrubs ten (s .result) (s .ensures) (c .refused .ensures ∙ sym (ap scrubShown (why .1)))
-    (sym (ap (λ r. tallied (means r) tallies) (why .1)))
+    (sym (ap (λ r. tallied (means r) tallies) (why .1))) (sym (ap (λ r. patternShown (means r) (now (a .pattern))) (why .1)))
 
 pub image-scrub-spec : {M : Type 1} → statement M
 image-scrub-spec =

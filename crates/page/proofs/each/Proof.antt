@@ -10,7 +10,7 @@ use denote.Ref.{now}
 use borrow.Author.Needs.{needs}
 use Rattle.words.proofs.Lists.{partly, partly-none, partly-all}
 use Rattle.codes.specs.Verdict.{scrubbed}
-use Rattle.codes.specs.Tally.{sumBy}
+use Rattle.codes.specs.Tally.{sumBy, lastFrom}
 use Rattle.grid_code.specs.Code.{gridCode}
 use Rattle.page.specs.Calls.{gridTally}
 use Rattle.page.proofs.Laws.{turn-page, turn-tally, turn-roomy}
@@ -25,7 +25,7 @@ abbrev μ-loop : tie.MeasureT-loop
 μ-loop page₀ tally₀ i₀ page tally i = length page₀ - i
 
 loop-holds : tie.Need-loop-holds Inv-loop μ-loop
-unfolding sumBy
+unfolding sumBy lastFrom
 loop-holds c = (search needs, partly-none (scrubbed gridCode) _, c .none .ensures .answer, refl)
 
 with-grid-requires : tie.Need-with-grid-requires Inv-loop μ-loop

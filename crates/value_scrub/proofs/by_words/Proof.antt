@@ -20,7 +20,7 @@ returns c =
     let scrub = m .before .before .before .scrub in
     let words = m .before .before .before .before .before .before .before .words in
     let s = m .before .before .before .before .before .before .before .before .before .before .before .before in
-    let is = ap ofAnswer (at .verdict .given .1 ∙ ap Done (c .enum-told .given .1)) in
+    let is = ap ofAnswer (at .answer .given .1 ∙ ap Done (c .enum-told .given .1)) in
     let taken =
     taken-there 2 (now (s .args .value)) (now (s .args .words)) (words .last .1 .0) (omega (arith, s .pre)) (words .ensures) ∙ ap (λ (n : ℕ). wordsIn 2 n (now (s .args .value))) (s .pre .1) in
     subst (λ (r : Blocks). ScrubbedBlock (now (s .args .value)) r (now (s .args .value))) is
@@ -37,7 +37,7 @@ returns-2 c =
     let s = m .before .before .before .before .before .before .before .before .before .before .before .before in
     let taken =
     taken-there 2 (now (s .args .value)) (now (s .args .words)) (words .last .1 .0) (omega (arith, s .pre)) (words .ensures) ∙ ap (λ (n : ℕ). wordsIn 2 n (now (s .args .value))) (s .pre .1) in
-    subst (λ (r : Blocks). ScrubbedBlock (now (s .args .value)) r (c .before .before .put-words .last .0)) (ap ofAnswer (at .verdict .given .1 ∙ ap Done (x .verdict2 .given .1)))
+    subst (λ (r : Blocks). ScrubbedBlock (now (s .args .value)) r (c .before .before .put-words .last .0)) (ap ofAnswer (at .answer .given .1 ∙ ap Done (x .verdict .given .1)))
     (words-written (now (s .args .value)) (words .last .1 .0) (scrub .last .0) (scrub .result) (s .pre .0) (λ i. m .before .before .before .before .before .before .before .before .before .before .before .slice-known .given i .fits) taken
     (scrub .ensures) (c .before .before .put-words .last .0) (c .before .before .put-words .ensures))
 

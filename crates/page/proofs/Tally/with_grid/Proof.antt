@@ -1,8 +1,8 @@
 -- `page::Tally::with_grid` meets its contract: a clean grid stays, any other is put right as its verdict says. Assumes nothing.
-use mathlib.Core.Path.{sym, ap, _∙_, subst}
+use mathlib.Core.Path.{sym, ap₂, _∙_, subst}
 use borrow.Author.Needs.{needs}
 use Rattle.grid.specs.Calls.{Judged}
-use Rattle.grid.proofs.Numbers.{decoded-verdict, decoded-number}
+use Rattle.grid.proofs.Numbers.{decoded-verdict, decoded-pattern, decoded-number}
 use Rattle.page.specs.Steps.{counted, Roomy}
 use Rattle.page.proofs.Laws.{decoded-clean}
 use Rattle.page.proofs.Tally.with_grid.Statement.{statement}
@@ -41,8 +41,10 @@ returns-2 c =
       decoded-number (s .args .word) (c .before .number .result) (of-number .result .rows) (mend .result) (s .fits .word .fits)
           (of-number .ensures .answer) (mend .ensures) (c .before .number .ensures .answer),
       c .counted2 .ensures
-          ∙ ap (counted (s .args .self))
+          ∙ ap₂ (counted (s .args .self))
           (decoded-verdict (s .args .word) (of-number .result .rows) (mend .result) (s .fits .word .fits) (of-number .ensures .answer)
+          (mend .ensures))
+          (decoded-pattern (s .args .word) (of-number .result .rows) (mend .result) (s .fits .word .fits) (of-number .ensures .answer)
           (mend .ensures)),
     )
 
