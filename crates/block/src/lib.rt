@@ -11,7 +11,8 @@
 // row each place counts with its column and its diagonal; a single one also with its row and the system parity: five. So two blocks differ
 // in at least five places, and up to two flips leave a block nearer to what was written than to any other.
 //
-// The scrubber guesses a flipped place, and verifies it by the checks that are left (crate block_flips).
+// The scrubber guesses a flipped place, and verifies it by the checks that are left (crate block_flips). It returns the flips that it has
+// undone as a pattern: 38 words in which just their places are set.
 //
 // The crate block_code has the parities and what is proved of the code, block_words what writes, reads and flips the words.
 // specs/Calls.antt has what each call promises, and specs/Promises.antt what is proved of the calls.
@@ -46,7 +47,7 @@ pub enum BlockAnswer {
     Refused(Refusal),
 }
 
-// The answer of a scrub, and beside it the places that were flipped: all zero where the block is clean or refused.
+// The answer of a scrub, and beside it the pattern of the flips: all zero where the block is clean or refused.
 pub struct Scrub {
     pub answer: BlockAnswer,
     pub pattern: [u16; 38],

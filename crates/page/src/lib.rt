@@ -1,5 +1,5 @@
 // A page of up to 512 grids, each a 64-bit number, scrubbed where it stands: mended grids are replaced by their codewords, and clean and
-// lost ones stay as they are.
+// lost ones stay as they are. What is counted is returned, with the pattern of the last mended grid.
 //
 // specs/Calls.antt says what a scrub answers and leaves, specs/Promises.antt what is proved of it.
 ghost use mathlib.Core.Path.{_≡_};
