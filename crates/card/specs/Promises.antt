@@ -54,7 +54,8 @@ pub record ScrubPromises : Type 0 where
       → AddsUp (gridsTally (t .grids)) × AddsUp (blocksTally (t .blocks))
   -- The pattern is that of the last mended grid, over all grids fields in order, and zero where none is mended.
   pub last : (s exit : List ℕ) (c : Card) (r : ScrubAnswer) (t : Tallies) (i : ℕ) → cardOf s ≡ sound c → Scrubbed s r exit
-      → scrubMeans r ≡ gives t → LastMended gridCode (gridsIn (c .parts)) i → t .grids .pattern ≡ patternOf gridCode (getD (gridsIn (c .parts)) i 0)
+      → scrubMeans r ≡ gives t → LastMended gridCode (gridsIn (c .parts)) i
+      → t .grids .pattern ≡ patternOf gridCode (getD (gridsIn (c .parts)) i 0)
   pub no-last : (s exit : List ℕ) (r : ScrubAnswer) (t : Tallies) → Scrubbed s r exit → scrubMeans r ≡ gives t → t .grids .mended ≡ 0
       → t .grids .pattern ≡ 0
   -- The image stays sound and as long as it was, and holds the scrubbed card: the same title, and as many grids and blocks.

@@ -27,8 +27,9 @@ scrubbedCard c = record { title = c .title; parts = map scrubbedPart (c .parts) 
 abbrev pub talliesOf : List Part → Tallies
 talliesOf ps = record { grids = gridTally (gridsIn ps); blocks = blockTally (blocksIn ps) }
 
--- `card::scrub`: a tally for grids, with the pattern of the last mended one, and a tally for blocks. The value of each data field is put right within the image, where a lost grid or
--- block stays as it was. An image that is too long or broken is refused, and nothing is written.
+-- `card::scrub`: a tally for grids, with the pattern of the last mended one, and a tally for blocks. The value of each data field is put
+-- right within the image, where a lost grid or block stays as it was. An image that is too long or broken is refused, and nothing is
+-- written.
 pub record Scrubbed (image : List ℕ) (r : ScrubAnswer) (exit : List ℕ) : Type 0 where
   pub answer : r ≡ checkedAs image Refused (λ c. Done (talliesOf (c .parts)))
   pub after : exit ≡ checkedAs image (λ why. image) (λ c. imageOf (scrubbedCard c))

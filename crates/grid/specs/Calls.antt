@@ -29,7 +29,7 @@ pub record Parted (w : ℕ) (rows : List ℕ) : Type 0 where
 pub record Judged (rows : List ℕ) (r : Bool) : Type 0 where
   pub answer : r ≡ eqb (isClean (verdict gridCode (joined 8 rows))) 1
 
--- `Grid::decode` and `Grid::mend`: the verdict on the grid, and beside it the codeword, or on refusal the grid as read; and the pattern of the
+-- `Grid::decode` and `Grid::mend`: the verdict on the grid; beside it the codeword, or on refusal the grid as read; and the pattern of the
 -- flips.
 pub record Decoded (rows : List ℕ) (r : Answer) : Type 0 where
   pub answer : verdictOf (r .verdict) ≡ verdict gridCode (joined 8 rows)
