@@ -3,7 +3,7 @@ use mathlib.Core.Path.{_≡_, refl, sym, ap, _∙_}
 use mathlib.Core.Logic.{_≢_, _⊎_, inl, inr}
 use mathlib.Core.List.{List, [], _∷_, _++_}
 use Prim.Native.Nat.{ℕ, zero, suc, _+_, _<_}
-use native.Mathlib.Decide.{ℕ-discrete}
+use native.Mathlib.Decide.{ℕ-discrete, decLt}
 use native.Mathlib.Numerals.{add-one}
 use native.Mathlib.Omega.{arith}
 use lib.ListN.{length, getD, take}
@@ -25,6 +25,11 @@ passed-own : (v : Verdict) (p before : ℕ) → isMended v ≡ 1 → passedOn v 
 passed-own (clean d) p before z = absurd (omega (arith, z))
 passed-own (mended d n) p before z = refl
 passed-own lost p before z = absurd (omega (arith, z))
+
+counted-once : (v : Verdict) → 0 < isMended v → isMended v ≡ 1
+counted-once (clean d) l = absurd (omega (arith, l))
+counted-once (mended d n) l = refl
+counted-once lost l = absurd (omega (arith, l))
 
 -- ---- of a list
 
@@ -61,6 +66,35 @@ module _ (C : Code) where
 
   pub last : (ws : List ℕ) (i : ℕ) → LastMended C ws i → lastPattern C ws ≡ patternOf C (getD ws i 0)
   last ws = last-from 0 ws
+
+  -- where some are mended, one is the last
+  none-each : (ws : List ℕ) → sumBy C isMended ws ≡ 0 → (j : ℕ) → j < length ws → isMended (verdict C (getD ws j 0)) ≡ 0
+  unfolding sumBy
+  none-each [] z j l = absurd (omega arith)
+  none-each (w ∷ ws) z zero l = omega (arith, z)
+  none-each (w ∷ ws) z (suc j) l = none-each ws (omega (arith, z)) j (omega arith)
+
+  pub some-last : (ws : List ℕ) → 0 < sumBy C isMended ws → (i : ℕ) × LastMended C ws i
+  unfolding sumBy
+  some-last [] h = absurd (omega (arith, h))
+  some-last (w ∷ ws) h = go (some-last ws) (decLt 0 (sumBy C isMended ws))
+    where
+      first : sumBy C isMended ws ≡ 0 → (j : ℕ) → 0 < j → j < suc (length ws) → isMended (verdict C (getD (w ∷ ws) j 0)) ≡ 0
+      first z zero k m = absurd (omega arith)
+      first z (suc j) k m = none-each ws z j (omega arith)
+
+      behind : (i : ℕ) → LastMended C ws i → (j : ℕ) → suc i < j → j < suc (length ws) → isMended (verdict C (getD (w ∷ ws) j 0)) ≡ 0
+      behind i l zero k m = absurd (omega arith)
+      behind i l (suc j) k m = l .none-behind j (omega arith) (omega arith)
+
+      go : (0 < sumBy C isMended ws → (i : ℕ) × LastMended C ws i) → Dec (0 < sumBy C isMended ws) → (i : ℕ) × LastMended C (w ∷ ws) i
+      go there (yes more) =
+          let (i, l) = there more in
+          (suc i, record { below = omega (arith, l .below); is-mended = l .is-mended; none-behind = behind i l })
+      go there (no none) = (
+        0,
+        record { below = omega arith; is-mended = counted-once (verdict C w) (omega (arith, h)); none-behind = first (omega arith) },
+      )
 
   -- two parts
   last-append : (before : ℕ) (xs ys : List ℕ) → lastFrom C before (xs ++ ys) ≡ lastFrom C (lastFrom C before xs) ys
