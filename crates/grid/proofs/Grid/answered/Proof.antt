@@ -2,6 +2,7 @@
 use mathlib.Core.Path.{refl, sym, ap}
 use borrow.Author.Needs.{needs}
 use Rattle.codes.specs.Verdict.{answered}
+use Rattle.grid.specs.declared.Verdict.the-variants.{Clean, Mended}
 use Rattle.grid.proofs.Verdicts.{some-flips, answers}
 use Rattle.grid.proofs.Grid.answered.Statement.{statement}
 use Rattle.grid.proofs.Grid.answered.Tie as tie
@@ -14,7 +15,8 @@ returns c by =
     let taken = c .before .before .before .before .places-of in
     let a = c .before .before .before .before .before .args in
     answers (a .self .rows) (a .number) (a .flips) (taken .result) (read .result) (number .result) _ (grid .result .rows) (taken .ensures)
-    (read .ensures) (grid .ensures .answer) (number .ensures .answer) refl by _ (sym (ap (answered (read .result)) (c .if1 .taken)))
+    (read .ensures) (grid .ensures .answer) (number .ensures .answer) refl by
+    (Clean (read .result)) (sym (ap (answered (read .result)) (c .if1 .taken)))
 
 returns-2 : tie.Need-returns-2
 returns-2 c by =
@@ -24,7 +26,8 @@ returns-2 c by =
     let taken = c .before .before .before .before .places-of in
     let a = c .before .before .before .before .before .args in
     answers (a .self .rows) (a .number) (a .flips) (taken .result) (read .result) (number .result) _ (grid .result .rows) (taken .ensures)
-    (read .ensures) (grid .ensures .answer) (number .ensures .answer) refl by _ (sym (some-flips (read .result) (a .flips) (c .if1 .left)))
+    (read .ensures) (grid .ensures .answer) (number .ensures .answer) refl by
+    (Mended (read .result) (a .flips)) (sym (some-flips (read .result) (a .flips) (c .if1 .left)))
 
 pub answered-spec : {M : Type 1} → statement M
 answered-spec =
