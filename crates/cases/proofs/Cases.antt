@@ -5,7 +5,7 @@ use mathlib.Core.List.{List, [], _∷_}
 use Prim.Native.Nat.{ℕ, zero, suc, _*_, _^_, _≤_, _<_}
 use lib.Bits.{bitXor}
 use lib.Count.{ones}
-use lib.Dec.{T, ltb, leb, eqb, ltb→lt, leb→le, eqb→eq, lit<, lit≤}
+use lib.Dec.{T, ltb, leb, eqb, ltb→lt, leb→le, eqb→eq, lit<}
 use Rattle.words.specs.Word.{dist, sumTo}
 use Rattle.words.specs.Digits.{digits}
 use Rattle.words.proofs.Dist.{dist-sym}
