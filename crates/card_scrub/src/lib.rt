@@ -2,7 +2,7 @@
 //
 // The image is checked as a whole before anything is written (crate image), so a refused call leaves it as it was. Then the data fields are
 // scrubbed one behind the other, each value by itself (crate value_scrub): a lost grid or block is counted, stays as it is, and is no
-// refusal of the call. What was counted in each is added up, and the later field's pattern is passed on.
+// refusal of the call. What was counted in each is added up, and the pattern of the last mended grid of all is passed on.
 //
 // specs/Calls.antt says what the call answers and leaves, and specs/Answer.antt what the answer says.
 ghost use mathlib.Core.Path.{_≡_};

@@ -23,6 +23,6 @@ pub record Small (t : Tally) : Type 0 where
   pub lost : t .lost < 2 ^ 32
   pub flips : t .flips < 2 ^ 32
 
--- of the patterns that two parts pass on, the one that both do: the second, unless nothing was mended there. A mended word's is never zero.
+-- which of two parts' patterns is passed on: b, of the part behind, unless nothing was mended there. A mended word's is never zero.
 abbrev pub later : ℕ → ℕ → ℕ
 later a b = choose (eqb b 0) a b

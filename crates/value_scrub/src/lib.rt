@@ -41,7 +41,7 @@ pub fn no_blocks() -> Blocks
     }
 }
 
-// Of the patterns that two parts pass on, the one that both do: the second, unless nothing was mended there. A mended grid's is never zero.
+// Which of two parts' patterns is passed on: that of the part behind, unless nothing was mended there. A mended grid's is never zero.
 fn later(before: u64, behind: u64) -> u64
     ensures { λ r. ⌜ r ≡ later before behind ⌝ }
 {
