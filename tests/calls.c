@@ -2,21 +2,22 @@
    hex, numbers decimal, and `-` is the empty slice or list.
 
      genc N                                 HEX16
-     gdec HEX16                             clean|mended|lost data D flips N repaired HEX16 pattern HEX16
-     page HEX16 ..                          G C M L F | pattern HEX16 | HEX16 ..
+     gdec HEX16                             clean|mended|lost data D flips N repaired HEX16 pattern HEX16, or
+                                            blank flips N repaired HEX16 pattern HEX16
+     page HEX16 ..                          G C B M L F | pattern HEX16 | HEX16 ..
      benc HEX4 ..                           HEX4 ..
      bscrub HEX4 ..                         clean|mended flips N HEX4 .. pattern HEX4 ..
      icheck HEX                             grids G blocks B
-     iscrub HEX                             G C M L F | G C M L F | pattern HEX16 | HEX
+     iscrub HEX                             G C B M L F | G C M L F | pattern HEX16 | HEX
      iread HEX TITLEROOM DATAROOM FLIPROOM  title T grids G | HEX | D:F D:F ..
      iwrite TITLE ROOM N N ..               HEX
      help                                   CALL WORDS; CALL WORDS; ..
 
-   G C M L F is a tally: all, clean, mended, lost, flips. D:F are the data and the flips of a grid. The blocks have as many words as they
-   are given, the one that `benc` writes has 38. A pattern has ones in the places that were flipped; that of a page or an image is the last
-   mended grid's, that of a block has 38 words. A refusal is `refused N`, behind which `bscrub` has the pattern too, and where there is a
-   place of the break `refused 4 at PLACE`. A line that is no such call, or lends more than 1,000,000 places, is answered `?`, and standard
-   error has why. */
+   G C B M L F is a tally of grids: all, clean, blank, mended, lost, flips; that of blocks has no B. D:F are the data and the flips of a
+   grid, 65535 and the flips plus 128 of a blank one. The blocks have as many words as they are given, the one that `benc` writes has 38. A
+   pattern has ones in the places that were flipped; that of a page or an image is the last mended grid's, that of a block has 38 words. A
+   refusal is `refused N`, behind which `bscrub` has the pattern too, and where there is a place of the break `refused 4 at PLACE`. A line
+   that is no such call, or lends more than 1,000,000 places, is answered `?`, and standard error has why. */
 #include "library.h"
 #include "text.h"
 
@@ -25,7 +26,8 @@ int fprintf(void *, const char *, ...);
 long getline(char **, unsigned long *, void *);
 extern void *stdin, *stderr;
 
-enum { BLOCK_WORDS = 38, NUMBERS = 5, TALLIES = 10, LARGEST = 65535, LONGEST_ROOM = 1000000, LOST = 1, BROKEN = 4 };
+enum { BLOCK_WORDS = 38, NUMBERS = 6, BLOCK_NUMBERS = 5, TALLIES = NUMBERS + BLOCK_NUMBERS };
+enum { LARGEST = 65535, LONGEST_ROOM = 1000000, LOST = 1, BROKEN = 4 };
 
 /* what a call returned, if it is a refusal */
 static int refused(uint32_t number, uint64_t place)
@@ -42,9 +44,11 @@ static int image_refused(uint64_t returned)
     return refused((uint32_t)(returned >> 32), returned);
 }
 
-static void print_tally(const uint32_t *tally)
+static void print_tally(const uint32_t *tally, unsigned numbers)
 {
-    printf("%u %u %u %u %u | ", tally[0], tally[1], tally[2], tally[3], tally[4]);
+    for (unsigned k = 0; k < numbers; k++)
+        printf("%u ", tally[k]);
+    printf("| ");
 }
 
 static void print_pattern(uint64_t pattern)
@@ -59,8 +63,8 @@ static int genc(char **words, uint64_t n)
     uint64_t value, grid;
     if (n != 1 || !read_number(words[0], LARGEST, &value))
         return 0;
-    grid = grid_encode((uint16_t)value);
-    print_grids(&grid, 1);
+    if (!refused(grid_encode((uint16_t)value, &grid), 0))
+        print_grids(&grid, 1);
     return 1;
 }
 
@@ -70,9 +74,12 @@ static int gdec(char **words, uint64_t n)
     if (n != 1 || !read_hex(words[0], 16, &read))
         return 0;
     grid_decode(&read, 1, &verdict, 1, &repaired, 1, &pattern, 1);
-    unsigned data = verdict & LARGEST, flips = verdict >> 16 & 255, number = (unsigned)(verdict >> 24);
-    printf("%s ", number == LOST ? "lost" : flips == 0 ? "clean" : "mended");
-    printf("data %u flips %u repaired ", data, flips);
+    unsigned data = verdict & LARGEST, flips = verdict >> 16 & 255, number = verdict >> 24 & 255, blank = (unsigned)(verdict >> 32);
+    if (blank)
+        printf("blank ");
+    else
+        printf("%s data %u ", number == LOST ? "lost" : flips == 0 ? "clean" : "mended", data);
+    printf("flips %u repaired ", flips);
     print_grids(&repaired, 1);
     printf(" ");
     print_pattern(pattern);
@@ -86,7 +93,7 @@ static int page(char **words, uint64_t n)
     if (grids == 0)
         return 0;
     if (!refused(page_scrub(grids, n, tally, NUMBERS, &pattern), 0)) {
-        print_tally(tally);
+        print_tally(tally, NUMBERS);
         print_pattern(pattern);
         printf(" | ");
         print_grids(grids, n);
@@ -140,8 +147,8 @@ static int iscrub(char **words, uint64_t n)
     if (image == 0)
         return 0;
     if (!image_refused(image_scrub(image, n, tallies, TALLIES, &pattern))) {
-        print_tally(tallies);
-        print_tally(tallies + NUMBERS);
+        print_tally(tallies, NUMBERS);
+        print_tally(tallies + NUMBERS, BLOCK_NUMBERS);
         print_pattern(pattern);
         printf(" | ");
         print_bytes(image, n);

@@ -2,11 +2,13 @@
    `tests/campaign` builds it and runs it.
 
    `campaign [SEED [COUNT]]` flips every set of up to 3 places of a grid and of up to 2 places of a block, and of more places COUNT drawn
-   sets for each number of flips. The data is drawn for each word. By the library's answer a word is
+   sets for each number of flips. The data is drawn for each word, from 0 to 65,534 for a grid. Then it does the same to the erased grid,
+   which is all ones. By the library's answer a word is
 
-     undone   if what was written has come back, the flips are counted right, and the pattern is the flips;
+     undone   if what was written has come back, as blank if that is the erased grid and as data if not, the flips are counted right, and
+              the pattern is the flips;
      refused  if it is lost, stays as it was read, and the pattern is zero;
-     wrong    in all other cases.
+     wrong    in all other cases, among which are blank where a number was written, and a number where the grid was erased.
 
    The status is 1 if the two answers to a word differ in anything, if up to the radius a word is not undone, or if a grid with 8 flips is
    not refused; the first such word is shown with both answers. What becomes of more flips is shown as it is: nobody can tell them from
@@ -230,6 +232,7 @@ int main(int n, char **words)
         fprintf(stderr, "usage: tests/campaign [SEED [COUNT]], both decimal, COUNT from 1\n");
         return BAD_ARGUMENTS;
     }
-    int grid_failed = run(&grid), block_failed = run(&block);
-    return grid_failed || block_failed;
+    struct code erased = erased_grid();
+    int grid_failed = run(&grid), block_failed = run(&block), erased_failed = run(&erased);
+    return grid_failed || block_failed || erased_failed;
 }

@@ -1,7 +1,8 @@
-/* The library's check, scrub and read-back of a card image beside the second program's. `card` is called as `flip.h` says; the bits are 0
-   to 63 in the number that a scrub returns, 64 to 127 in the first eight bytes of the image, 128 to 191 in the pattern. `card images DIR`
-   and `card images DIR SEED` compare nothing: they write the images to files of DIR, which is there, and to DIR/expected the name of each
-   with what the bench has to print. A difference is reported at the number of the image, which is that of its file. */
+/* The library's check, scrub, read-back and lines of a card image beside the second program's. `card` is called as `flip.h` says; the bits
+   are 0 to 63 in the number that a scrub returns, 64 to 127 in the first eight bytes of the image, 128 to 191 in the pattern, 192 to 255 in
+   the first eight bytes of the lines. `card images DIR` and `card images DIR SEED` compare nothing: they write the images to files of DIR,
+   which is there, and to DIR/expected the name of each with what the bench has to print. A difference is reported at the number of the
+   image, which is that of its file. */
 #include "flip.h"
 #include "forms.h"
 #include "images.h"
@@ -15,12 +16,15 @@ int fprintf(void *, const char *, ...);
 unsigned long fwrite(const void *, unsigned long, unsigned long, void *);
 int fclose(void *);
 
-enum { TALLY = TALLIES / 2, SETS = sizeof sets / sizeof *sets };
+enum { GRID_TALLY = 6, SETS = sizeof sets / sizeof *sets };
 
 static struct test again = {.name = "image scrub, a second time"};
+static struct test lines = {.name = "image lines, the same images"};
+static struct test no_lines = {.name = "image lines, too little room"};
 static struct test plain_checked = {.name = "the plain version's image check, the same images"};
 static struct test plain_read_back = {.name = "the plain version's image read, the same images"};
 static struct test plain_scrubbed = {.name = "the plain version's image scrub, the same images"};
+static struct test plain_lines = {.name = "the plain version's image lines, the same images"};
 
 /* how many images came before */
 static uint64_t number;
@@ -65,8 +69,14 @@ static void read_back(struct test *t, const struct state *lent)
     compare_states(t, &library, &second, number);
 }
 
-/* a second scrub finds clean + mended clean, the same lost, 0 mended, 0 flips, pattern 0, and alters nothing; what was refused is refused
-   again */
+/* what a second scrub finds: clean + mended clean, 0 mended, 0 flips, and the same of all others */
+static void found_again(uint32_t *clean, uint32_t *mended, uint32_t *flips)
+{
+    *clean += *mended;
+    *mended = *flips = 0;
+}
+
+/* pattern 0, and nothing is altered; what was refused is refused again */
 static void scrub_again(const struct state *once)
 {
     static struct state twice, expected;
@@ -74,12 +84,10 @@ static void scrub_again(const struct state *once)
     copy_state(&expected, once);
     twice.returned = image_scrub(image_in(&twice), twice.lengths.image, tallies_in(&twice), TALLIES, pattern_in(&twice));
     if (once->returned == 0) {
+        uint32_t *grids = tallies_in(&expected), *blocks = grids + GRID_TALLY;
         *pattern_in(&expected) = 0;
-        for (unsigned k = 0; k < TALLIES; k += TALLY) {
-            uint32_t *tally = tallies_in(&expected) + k;
-            tally[1] += tally[2];
-            tally[2] = tally[4] = 0;
-        }
+        found_again(&grids[1], &grids[3], &grids[5]);
+        found_again(&blocks[1], &blocks[2], &blocks[4]);
     }
     compare_states(&again, &twice, &expected, number);
 }
@@ -101,7 +109,52 @@ static void scrub(struct test *t, const struct state *lent)
     compare_states(t, &library, &second, number);
 }
 
-/* An image through the three calls, with rooms that are long enough; and what whoever made it knows of it. What is drawn here is drawn
+/* what the second program prints stands at the front of the text, and nothing is altered behind it */
+static void lay_lines(struct test *t, const struct state *lent)
+{
+    static struct state library, second, plainly;
+    char printed[BENCH_TEXT];
+    uint64_t n = lent->lengths.image, m = lent->lengths.text;
+    copy_state(&library, lent);
+    copy_state(&second, lent);
+    copy_state(&plainly, lent);
+    library.returned = image_lines(image_in(&library), n, text_in(&library), m);
+    second.returned = second_bench(image_in(&second), n, printed);
+    memcpy(text_in(&second), printed, second.returned);
+    plainly.returned = plain_image_lines(image_in(&plainly), n, text_in(&plainly), m);
+    compare_states(&plain_lines, &plainly, &second, number);
+    flip_text(&library, flip_library);
+    flip_text(&second, flip_second);
+    compare_states(t, &library, &second, number);
+}
+
+/* where the text is too short, nothing is done, whatever the image is */
+static void lay_no_lines(struct test *t, const struct state *lent)
+{
+    static struct state library, plainly, expected;
+    uint64_t n = lent->lengths.image, m = lent->lengths.text;
+    copy_state(&library, lent);
+    copy_state(&plainly, lent);
+    copy_state(&expected, lent);
+    library.returned = image_lines(image_in(&library), n, text_in(&library), m);
+    plainly.returned = plain_image_lines(image_in(&plainly), n, text_in(&plainly), m);
+    expected.returned = (uint64_t)6 << 32;
+    compare_states(&plain_lines, &plainly, &expected, number);
+    compare_states(t, &library, &expected, number);
+}
+
+/* the lines of an image, with one of the lengths that are long enough and one of those that are not */
+static void compare_lines(struct image *im)
+{
+    static const uint64_t enough[] = {LONGEST_LINES, LONGEST_LINES + 1, 400}, too_short[] = {0, 1, LONGEST_LINES - 1};
+    static struct state lent;
+    lend(&lent, im, (struct lengths){.text = enough[draw() % 3]});
+    lay_lines(&lines, &lent);
+    lend(&lent, im, (struct lengths){.text = too_short[draw() % 3]});
+    lay_no_lines(&no_lines, &lent);
+}
+
+/* An image through the four calls, with rooms that are long enough; and what whoever made it knows of it. What is drawn here is drawn
    again afterwards, so that the images are those of `write_image`. */
 static void compare_image(struct test *t, struct image *im)
 {
@@ -112,10 +165,11 @@ static void compare_image(struct test *t, struct image *im)
         compare(t, a.number, im->number, number);
         compare(t, a.place, im->number == BROKEN ? im->place : 0, number);
     }
-    lend(&lent, im, (struct lengths){TALLIES, a.grids + draw() % 3, a.grids + draw() % 3, LONGEST_TITLE + draw() % 3, 0});
+    lend(&lent, im, (struct lengths){TALLIES, a.grids + draw() % 3, a.grids + draw() % 3, LONGEST_TITLE + draw() % 3, 0, 0});
     check(t, &lent);
     read_back(t, &lent);
     scrub(t, &lent);
+    compare_lines(im);
     drawn = before;
     number++;
 }
@@ -128,13 +182,17 @@ static void worked_image(void)
                   0xB1, 0x00, 0xB1, 0xB1, 0x00, 0x00, 0x00, 0xB1, 0x00, 0x00, 0x00, 0x7F, 0x00, 0x00},
         .n = 29,
     };
-    static const uint32_t tallies[TALLIES] = {2, 0, 1, 1, 1};
+    static const uint32_t tallies[TALLIES] = {2, 0, 0, 1, 1, 1};
+    static const char printed[] = "title Mira\n"
+                                  "grids 2 clean 0 blank 0 mended 1 lost 1 flips 1\n"
+                                  "blocks 0 clean 0 mended 0 lost 0 flips 0\n";
     static struct state lent;
     struct test t = {.name = "the worked image"};
-    lend(&lent, &example, (struct lengths){TALLIES, 2, 2, 4, 0});
+    lend(&lent, &example, (struct lengths){TALLIES, 2, 2, 4, 0, LONGEST_LINES});
     check(&t, &lent);
     read_back(&t, &lent);
     scrub(&t, &lent);
+    lay_lines(&t, &lent);
 
     compare(&t, image_check(image_in(&lent), 29), 2, 0);
     compare(&t, image_read(image_in(&lent), 29, title_in(&lent), 4, data_in(&lent), 2, flips_in(&lent), 2), 4 | 2 << 16, 0);
@@ -148,11 +206,42 @@ static void worked_image(void)
     compare(&t, image_in(&lent)[10], 0xB1, 0);
     image_in(&lent)[10] = 0xB0;
     compare(&t, memcmp(image_in(&lent), example.bytes, 29), 0, 0);
+    compare(&t, image_lines(image_in(&lent), 29, text_in(&lent), LONGEST_LINES), sizeof printed - 1, 0);
+    compare(&t, memcmp(text_in(&lent), printed, sizeof printed - 1), 0, 0);
+    compare(&t, image_in(&lent)[10], 0xB1, 0);
     report(&t);
 }
 
-/* the data fields that are put in every order: a grid that is mended, clean or lost, no grid, a block that is mended */
-enum kind { MENDED_GRID, CLEAN_GRID, LOST_GRID, NO_GRID, MENDED_BLOCK, KINDS };
+/* An image whose grids are all erased, with 0 to 7 flips; what each call has to find there is known. */
+static void erased_grids(void)
+{
+    enum { FLIPS = 8, IMAGE_BYTES = 4 + 3 + FLIPS * GRID_BYTES + 3 };
+    static const uint32_t tallies[TALLIES] = {FLIPS, 0, FLIPS, 0, 0, 28};
+    static struct state lent;
+    struct test t = {.name = "erased grids with 0 to 7 flips, read back and scrubbed"};
+    begin(&im, 1);
+    add_head(&im, GRIDS, FLIPS * GRID_BYTES);
+    for (unsigned flips = 0; flips < FLIPS; flips++)
+        add_grid(&im, ERASED_GRID ^ draw_places(UINT64_MAX, flips));
+    add_head(&im, END, 0);
+    lend(&lent, &im, (struct lengths){TALLIES, FLIPS, FLIPS, 1, 0, 0});
+    uint64_t read = image_read(image_in(&lent), IMAGE_BYTES, title_in(&lent), 1, data_in(&lent), FLIPS, flips_in(&lent), FLIPS);
+    compare(&t, read, 1 | FLIPS << 16, 0);
+    for (unsigned flips = 0; flips < FLIPS; flips++) {
+        compare(&t, data_in(&lent)[flips], 65535, flips);
+        compare(&t, flips_in(&lent)[flips], 128 + flips, flips);
+    }
+    compare(&t, image_scrub(image_in(&lent), IMAGE_BYTES, tallies_in(&lent), TALLIES, pattern_in(&lent)), 0, 0);
+    compare(&t, memcmp(tallies_in(&lent), tallies, sizeof tallies), 0, 0);
+    compare(&t, *pattern_in(&lent), 0, 0);
+    for (unsigned k = 0; k < FLIPS * GRID_BYTES; k++)
+        compare(&t, image_in(&lent)[4 + 3 + k], 0xFF, k);
+    report_drawn(t);
+}
+
+/* the data fields that are put in every order: a grid that is mended, clean, lost, blank, or blank with flips, no grid, a block that is
+   mended */
+enum kind { MENDED_GRID, CLEAN_GRID, LOST_GRID, BLANK_GRID, FLIPPED_BLANK_GRID, NO_GRID, MENDED_BLOCK, KINDS };
 
 /* a block of zeros with one flip */
 static void add_mended_block(void)
@@ -166,19 +255,20 @@ static void add_mended_block(void)
 /* It returns what is flipped in the grid. */
 static uint64_t add_kind(enum kind kind)
 {
-    uint64_t flips = draw_places(UINT64_MAX, kind == MENDED_GRID ? 1 + draw() % 7 : kind == LOST_GRID ? 8 : 0);
+    int some = kind == MENDED_GRID || kind == FLIPPED_BLANK_GRID, erased = kind == BLANK_GRID || kind == FLIPPED_BLANK_GRID;
+    uint64_t flips = draw_places(UINT64_MAX, some ? 1 + draw() % 7 : kind == LOST_GRID ? 8 : 0);
     if (kind == MENDED_BLOCK) {
         add_mended_block();
     } else if (kind == NO_GRID) {
         add_head(&im, GRIDS, 0);
     } else {
         add_head(&im, GRIDS, GRID_BYTES);
-        add_grid(&im, second_grid((uint16_t)draw()) ^ flips);
+        add_grid(&im, (erased ? ERASED_GRID : second_grid(draw_number())) ^ flips);
     }
     return flips;
 }
 
-/* every order of up to three data fields: the pattern is what was flipped in the last grid that is mended */
+/* every order of up to three data fields: the pattern is what was flipped in the last grid that is mended, and no blank one is that */
 static void last_mended(void)
 {
     static struct state lent;
@@ -207,7 +297,7 @@ static void try_rooms(struct test *t, struct image *im)
     uint64_t title = im->bytes[2], grids = second_image_check(im->bytes, im->n).grids;
     for (unsigned c = 0; c < 27; c++) {
         uint64_t data_room = grids + c % 3, flips_room = grids + c / 3 % 3, title_room = title + c / 9;
-        lend(&lent, im, (struct lengths){TALLIES, data_room - (grids > 0), flips_room - (grids > 0), title_room - (title > 0), 0});
+        lend(&lent, im, (struct lengths){TALLIES, data_room - (grids > 0), flips_room - (grids > 0), title_room - (title > 0), 0, 0});
         read_back(t, &lent);
     }
     lend(&lent, im, (struct lengths){.tallies = TALLIES});
@@ -227,6 +317,21 @@ static void try_tallies(struct test *t, struct image *im)
         after.returned = image_scrub(image_in(&after), im->n, tallies_in(&after), m, pattern_in(&after));
         before.returned = (uint64_t)255 << 32;
         compare_states(t, &after, &before, number);
+    }
+    number++;
+}
+
+/* a text of each length that is looked at: 219 bytes are the least */
+static void try_texts(struct test *t, struct image *im)
+{
+    static const uint64_t lengths[] = {0, 1, LONGEST_LINES - 1, LONGEST_LINES, LONGEST_LINES + 1, 400};
+    static struct state lent;
+    for (unsigned k = 0; k < sizeof lengths / sizeof *lengths; k++) {
+        lend(&lent, im, (struct lengths){.text = lengths[k]});
+        if (lengths[k] < LONGEST_LINES)
+            lay_no_lines(t, &lent);
+        else
+            lay_lines(t, &lent);
     }
     number++;
 }
@@ -274,12 +379,17 @@ static void all(void)
     use_set(compare_image, (struct set){"images, every byte of a small one set to every value", every_byte});
     use_set(try_rooms, (struct set){"image read, rooms too short, just long enough and longer", some_of_each});
     use_set(try_tallies, (struct set){"image scrub, tallies of other lengths", some_of_each});
+    use_set(try_texts, (struct set){"image lines, texts of 0 to 400 bytes", some_of_each});
     last_mended();
+    erased_grids();
     worked_image();
     report_drawn(again);
+    report_drawn(lines);
+    report_drawn(no_lines);
     report_drawn(plain_checked);
     report_drawn(plain_read_back);
     report_drawn(plain_scrubbed);
+    report_drawn(plain_lines);
 }
 
 int main(int n, char **words)

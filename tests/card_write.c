@@ -10,17 +10,19 @@
 
 enum { LONGEST_TITLE = 24, MOST_NUMBERS = 512, LONGEST_ROOM = 40000, LONGEST_WRITTEN = 9 + LONGEST_TITLE + 8 * MOST_NUMBERS };
 
-/* the refusals for lengths, title bytes and room, as the library returns them */
-static const uint64_t LENGTH = (uint64_t)3 << 32, TITLE_BYTE = (uint64_t)4 << 32, TOO_SHORT = (uint64_t)6 << 32;
+/* the refusals for lengths, title bytes, the number of the erased grid, and room, as the library returns them */
+static const uint64_t LENGTH = (uint64_t)3 << 32, TITLE_BYTE = (uint64_t)4 << 32, ERASED = (uint64_t)7 << 32, TOO_SHORT = (uint64_t)6 << 32;
 
 static struct test plain = {.name = "the plain version's image write, the same titles, numbers and rooms"};
 
-/* slices of these lengths; the title has good bytes, the numbers and what stands in the room are any */
+/* slices of these lengths; the title has good bytes, the numbers can be written, and what stands in the room is any */
 static void lend(struct state *s, uint64_t title, uint64_t numbers, uint64_t room)
 {
     draw_state(s, (struct lengths){.data = numbers, .title = title, .image = room});
     for (uint64_t k = 0; k < title; k++)
         title_in(s)[k] = (uint8_t)(0x20 + draw() % 95);
+    for (uint64_t k = 0; k < numbers; k++)
+        data_in(s)[k] = draw_number();
 }
 
 /* all three write; and what is to be returned is known beforehand */
@@ -82,19 +84,56 @@ static void title_bytes(void)
     report_drawn(t);
 }
 
-/* where several refusals apply: 3, then 4, then 6 */
+/* where several refusals apply: 3, then 4, then 7, then 6 */
 static void order(void)
 {
     struct test t = {.name = "image write, several refusals at once"};
-    for (unsigned k = 0; k < 32; k++) {
+    for (unsigned k = 0; k < 64; k++) {
         unsigned long_title = k & 1, many_numbers = k >> 1 & 1, bad_byte = k >> 2 & 1, short_room = k >> 3 & 1, no_room = k >> 4 & 1;
+        unsigned erased = k >> 5;
         uint64_t title = LONGEST_TITLE + long_title, numbers = MOST_NUMBERS + many_numbers, needed = 9 + title + 8 * numbers;
         lend(&lent, title, numbers, no_room ? 0 : needed - short_room);
         if (bad_byte)
             title_in(&lent)[23] = 0x1F;
-        uint64_t refused = long_title || many_numbers ? LENGTH : bad_byte ? TITLE_BYTE | 23 : TOO_SHORT;
+        if (erased)
+            data_in(&lent)[draw() % numbers] = 65535;
+        uint64_t refused = long_title || many_numbers ? LENGTH : bad_byte ? TITLE_BYTE | 23 : erased ? ERASED : TOO_SHORT;
         try_write(&t, &lent, k == 0 ? needed : refused);
     }
+    report_drawn(t);
+}
+
+/* 65,535 at every place of some numbers, then at the last one too; with room enough, with a byte too little, and with none */
+static void erased_numbers(void)
+{
+    static const uint64_t sizes[] = {1, 2, 3, 8, 65, 512};
+    struct test t = {.name = "image write, 65535 at every place of the numbers"};
+    for (unsigned s = 0; s < sizeof sizes / sizeof *sizes; s++)
+        for (uint64_t place = 0; place < sizes[s]; place++) {
+            uint64_t title = 1 + draw() % LONGEST_TITLE, needed = 9 + title + 8 * sizes[s];
+            uint64_t rooms[] = {needed, needed - 1, 0, needed + 50};
+            lend(&lent, title, sizes[s], rooms[place % 4]);
+            data_in(&lent)[place] = 65535;
+            try_write(&t, &lent, ERASED);
+            data_in(&lent)[sizes[s] - 1] = 65535;
+            try_write(&t, &lent, ERASED);
+        }
+    report_drawn(t);
+}
+
+/* the numbers that are nearest to it are written: 65,534, and those that differ from it in one bit or have one byte of it */
+static void other_numbers(void)
+{
+    static const uint64_t sizes[] = {1, 2, 3, 65};
+    struct test t = {.name = "image write, numbers that are nearly 65535"};
+    for (unsigned s = 0; s < sizeof sizes / sizeof *sizes; s++)
+        for (uint64_t place = 0; place < sizes[s]; place++)
+            for (unsigned k = 0; k < 18; k++) {
+                uint64_t needed = 9 + 4 + 8 * sizes[s];
+                lend(&lent, 4, sizes[s], needed);
+                data_in(&lent)[place] = (uint16_t)(k < 16 ? 65535 ^ 1 << k : k == 16 ? 0x00FF : 0xFF00);
+                try_write(&t, &lent, needed);
+            }
     report_drawn(t);
 }
 
@@ -125,7 +164,7 @@ struct found {
 static void scrubs(struct test *t, const struct card *card, const uint8_t *written, uint64_t length, struct found f)
 {
     struct card scrubbed = *card;
-    uint32_t tallies[TALLIES], expected[TALLIES] = {f.grids, f.grids - f.mended, f.mended, 0, f.flips};
+    uint32_t tallies[TALLIES], expected[TALLIES] = {f.grids, f.grids - f.mended, 0, f.mended, 0, f.flips};
     uint64_t pattern = draw();
     compare(t, image_scrub(scrubbed.image, length, tallies, TALLIES, &pattern), 0, t->compared);
     compare(t, memcmp(tallies, expected, sizeof expected), 0, t->compared);
@@ -147,7 +186,7 @@ static void written(void)
         for (unsigned p = 0; p < title; p++)
             card.title[p] = (uint8_t)(0x20 + draw() % 95);
         for (unsigned p = 0; p < n; p++)
-            card.numbers[p] = (uint16_t)draw();
+            card.numbers[p] = draw_number();
         compare(&clean, image_write(card.title, title, card.numbers, n, card.image, length), length, clean.compared);
         reads(&clean, &card, title, n);
         scrubs(&clean, &card, card.image, length, found);
@@ -175,6 +214,8 @@ static void all(void)
     lengths();
     title_bytes();
     order();
+    erased_numbers();
+    other_numbers();
     written();
     report_drawn(plain);
 }

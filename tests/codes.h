@@ -1,4 +1,5 @@
-/* The two codes of the fault campaign: how a word of each is written, answered by both sides and printed, and what is promised of it. */
+/* The codes of the fault campaign, the grid, the block, and the grid that is erased: how a word of each is written, answered by both sides
+   and printed, and what is promised of it. */
 #pragma once
 #include "draw.h"
 #include "flip.h"
@@ -46,9 +47,15 @@ struct code {
 /* draws data and writes it; what is returned if so many flips are undone */
 static uint64_t write_grid(union bits *written, unsigned flips)
 {
-    uint16_t data = (uint16_t)draw();
+    uint16_t data = draw_number();
     written->grid = second_grid(data);
     return verdict_number((struct answer){.data = data, .flips = flips});
+}
+
+static uint64_t write_erased(union bits *written, unsigned flips)
+{
+    written->grid = ERASED_GRID;
+    return verdict_number((struct answer){.blank = 1, .flips = flips});
 }
 
 static uint64_t write_block(union bits *written, unsigned flips)
@@ -98,6 +105,7 @@ static void print_block(const union bits *b)
    number only 6. That makes an odd number wrong some eight times as often as the even ones beside it: the table has them in pairs. */
 static const unsigned grid_flips[] = {0, 1, 2, 3, 4, 5, 6, 7, 8, 9, 10, 11, 12, 13, 14, 15, 16, 17, 24, 25, 32, 33};
 static const unsigned block_flips[] = {0, 1, 2, 3, 4, 5, 6, 7, 8};
+static const unsigned erased_flips[] = {0, 1, 2, 3, 4, 5, 6, 7, 8, 9, 10};
 
 static const struct code grid = {
     .name = "grid",
@@ -132,3 +140,14 @@ static const struct code block = {
     .answer = answer_blocks,
     .print = print_block,
 };
+
+/* what is promised of a grid holds of one that is erased, if blank is what comes back */
+static inline struct code erased_grid(void)
+{
+    struct code erased = grid;
+    erased.name = "erased grid";
+    erased.flips = erased_flips;
+    erased.rows = sizeof erased_flips / sizeof *erased_flips;
+    erased.write = write_erased;
+    return erased;
+}

@@ -6,7 +6,7 @@
 #include "library.h"
 #include "plain.h"
 
-enum { VALUES = 65536, RADIUS = 7, SLICE = 1000, MANY = 20000, PAIRS = 2000 };
+enum { VALUES = 65536, RADIUS = 7, SLICE = 1000, MANY = 20000, SOME = 2000 };
 
 static struct test plain = {.name = "the plain version's decode, the same words"};
 
@@ -40,6 +40,18 @@ static struct numbers flipped(struct numbers a, uint64_t flips[FLIP_WORDS])
 /* for where whoever made a word does not know its pattern; none is that, since it has seven ones at most */
 static const uint64_t NOT_KNOWN = UINT64_MAX;
 
+/* what is known of an answer by its pattern: that itself, and all the rest if it makes the word the erased grid */
+static void compare_known(struct test *t, struct numbers library, uint64_t read, uint64_t pattern)
+{
+    if (pattern == NOT_KNOWN)
+        return;
+    compare(t, library.at[2], pattern, read);
+    if ((read ^ pattern) == ERASED_GRID) {
+        struct answer blank = {.blank = 1, .flips = second_distance(pattern, 0), .repaired = ERASED_GRID, .pattern = pattern};
+        compare_numbers(t, library, numbers_of(blank), read);
+    }
+}
+
 /* the words that wait until there is a slice of them, and what is known of their patterns */
 static uint64_t waiting[SLICE], known[SLICE], waiting_count;
 
@@ -54,8 +66,7 @@ static void decode_waiting(struct test *t)
         struct numbers shown = {{library[0][k], library[1][k], library[2][k]}};
         compare_numbers(t, flipped(shown, flip_library), flipped(second, flip_second), waiting[k]);
         compare_numbers(&plain, (struct numbers){{plainly[0][k], plainly[1][k], plainly[2][k]}}, second, waiting[k]);
-        if (known[k] != NOT_KNOWN)
-            compare(t, library[2][k], known[k], waiting[k]);
+        compare_known(t, shown, waiting[k], known[k]);
     }
     waiting_count = 0;
 }
@@ -105,7 +116,11 @@ static void worked_words(void)
         {0x000000B0000000B1, {.data = 0, .flips = 7, .repaired = 0, .pattern = 0x000000B0000000B1}},
         {0x000000B1000000B1, {.number = 1, .repaired = 0x000000B1000000B1, .pattern = 0}},
         {0x000001B1000000B1, {.data = 1, .flips = 7, .repaired = 0xB100B1B1000000B1, .pattern = 0xB100B00000000000}},
-        {0xFFFFFFFFFFFFFFFF, {.data = 65535, .flips = 0, .repaired = 0xFFFFFFFFFFFFFFFF, .pattern = 0}},
+        {0xFFFFFFFFFFFFFFFF, {.blank = 1, .flips = 0, .repaired = 0xFFFFFFFFFFFFFFFF, .pattern = 0}},
+        {0xFFFFFFFFFFFFFFFE, {.blank = 1, .flips = 1, .repaired = 0xFFFFFFFFFFFFFFFF, .pattern = 1}},
+        {0xFFFFFF4FFFFFFF4E, {.blank = 1, .flips = 7, .repaired = 0xFFFFFFFFFFFFFFFF, .pattern = 0x000000B0000000B1}},
+        {0xFFFFFF4EFFFFFF4E, {.number = 1, .repaired = 0xFFFFFF4EFFFFFF4E, .pattern = 0}},
+        {0xFFFFFE4EFFFFFF4E, {.data = 65534, .flips = 7, .repaired = 0x4EFF4E4EFFFFFF4E, .pattern = 0xB100B00000000000}},
     };
     struct test t = {.name = "decode, the worked words"};
     for (unsigned k = 0; k < sizeof worked / sizeof *worked; k++) {
@@ -131,12 +146,13 @@ static void read_codewords(void)
     }
 }
 
-/* a codeword is at 0 places from itself, so its answer is known without looking at the others */
+/* a codeword is at 0 places from itself, so its answer is known without looking at the others: clean, but for the last, which is blank */
 static void compare_codewords(struct test *t)
 {
     for (uint32_t d = 0; d < VALUES; d++) {
         struct numbers found = {{clean.verdicts[d], clean.repaired[d], clean.patterns[d]}};
-        compare_numbers(t, found, (struct numbers){{d, clean.read[d], 0}}, clean.read[d]);
+        struct numbers known = {{d == ERASED_NUMBER ? (uint64_t)1 << 32 : d, clean.read[d], 0}};
+        compare_numbers(t, found, known, clean.read[d]);
     }
 }
 
@@ -152,22 +168,39 @@ static void every_codeword(void)
     compare_codewords(&plain);
 }
 
-static void every_pattern(void)
+static void every_pattern_on(struct test *t, uint64_t codeword)
 {
-    struct test t = {.name = "decode, every pattern of 1 to 3 flips on two codewords"};
-    for (unsigned k = 0; k < 2; k++) {
-        uint64_t codeword = second_grid((uint16_t)draw());
-        for (unsigned a = 0; a < 64; a++) {
-            uint64_t one = (uint64_t)1 << a;
-            decode_flipped(&t, codeword, one);
-            for (unsigned b = 0; b < a; b++) {
-                uint64_t two = one | (uint64_t)1 << b;
-                decode_flipped(&t, codeword, two);
-                for (unsigned c = 0; c < b; c++)
-                    decode_flipped(&t, codeword, two | (uint64_t)1 << c);
-            }
+    decode_flipped(t, codeword, 0);
+    for (unsigned a = 0; a < 64; a++) {
+        uint64_t one = (uint64_t)1 << a;
+        decode_flipped(t, codeword, one);
+        for (unsigned b = 0; b < a; b++) {
+            uint64_t two = one | (uint64_t)1 << b;
+            decode_flipped(t, codeword, two);
+            for (unsigned c = 0; c < b; c++)
+                decode_flipped(t, codeword, two | (uint64_t)1 << c);
         }
     }
+}
+
+static void every_pattern(void)
+{
+    struct test numbers = {.name = "decode, every pattern of up to 3 flips on two codewords"};
+    struct test blank = {.name = "decode, every pattern of up to 3 flips on the erased grid"};
+    for (unsigned k = 0; k < 2; k++)
+        every_pattern_on(&numbers, second_grid(draw_number()));
+    finish(&numbers);
+    every_pattern_on(&blank, ERASED_GRID);
+    finish(&blank);
+}
+
+/* up to seven flips are blank, and eight are lost; with more it can be a number that nobody has written */
+static void erased_words(void)
+{
+    struct test t = {.name = "decode, 4 to 10 flips on the erased grid"};
+    for (unsigned flips = 4; flips <= 10; flips++)
+        for (unsigned k = 0; k < SOME; k++)
+            decode_flipped(&t, ERASED_GRID, draw_places(UINT64_MAX, flips));
     finish(&t);
 }
 
@@ -197,6 +230,16 @@ static void random_words(void)
 }
 
 /* on the way from a codeword to one that is 16 places away: 7 of these places flipped, then 8, then 9, which is 7 from the other one */
+static void between(struct test *t, uint64_t from, uint64_t to)
+{
+    for (unsigned flips = 7; flips <= 9; flips++) {
+        uint64_t read = from ^ draw_places(from ^ to, flips);
+        compare(t, second_distance(read, from), flips, read);
+        compare(t, second_distance(read, to), 16 - flips, read);
+        decode(t, read, flips == 7 ? read ^ from : flips == 8 ? 0 : read ^ to);
+    }
+}
+
 static void half_way(void)
 {
     static uint16_t near[VALUES];
@@ -205,18 +248,16 @@ static void half_way(void)
         if (second_distance(0, second_grid((uint16_t)d)) == 16)
             near[near_count++] = (uint16_t)d;
 
-    struct test t = {.name = "decode, half-way between neighbours"};
-    for (unsigned k = 0; k < PAIRS; k++) {
+    struct test any = {.name = "decode, half-way between neighbours"};
+    for (unsigned k = 0; k < SOME; k++) {
         uint16_t data = (uint16_t)draw();
-        uint64_t from = second_grid(data), to = second_grid(data ^ near[draw() % near_count]);
-        for (unsigned flips = 7; flips <= 9; flips++) {
-            uint64_t read = from ^ draw_places(from ^ to, flips);
-            compare(&t, second_distance(read, from), flips, read);
-            compare(&t, second_distance(read, to), 16 - flips, read);
-            decode(&t, read, flips == 7 ? read ^ from : flips == 8 ? 0 : read ^ to);
-        }
+        between(&any, second_grid(data), second_grid(data ^ near[draw() % near_count]));
     }
-    finish(&t);
+    finish(&any);
+    struct test erased = {.name = "decode, half-way between the erased grid and each neighbour"};
+    for (unsigned k = 0; k < near_count; k++)
+        between(&erased, ERASED_GRID, second_grid(ERASED_NUMBER ^ near[k]));
+    finish(&erased);
 }
 
 /* slices of 0 to 3 places in rooms of 4: nothing is written behind a slice, and nothing at all if the lengths are not the same */
@@ -249,6 +290,7 @@ static void all(void)
     worked_words();
     every_codeword();
     every_pattern();
+    erased_words();
     flipped_words();
     random_words();
     half_way();

@@ -29,6 +29,13 @@ static inline uint64_t draw(void)
     return word(word(seed) + drawn++);
 }
 
+/* a number that can be written, 0 to 65,534: in place of 65,535 it is 0 */
+static inline uint16_t draw_number(void)
+{
+    uint16_t number = (uint16_t)draw();
+    return number == 65535 ? 0 : number;
+}
+
 /* some of the places of a word that are 1: n of them, or all if there are not so many */
 static inline uint64_t draw_places(uint64_t places, uint64_t n)
 {

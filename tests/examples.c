@@ -13,6 +13,11 @@ enum { TITLE = 10, NUMBERS = 5, FIRST_GRID = 3 + TITLE + 3, END = FIRST_GRID + 8
 enum { BLOCK_WORDS = 38, BLOCK_BYTES = 76, LOST_BLOCK = END + 3 + BLOCK_BYTES + 3, CUT_OFF = 40 };
 static const uint8_t name[] = "Mira Stern";
 
+/* a fresh card, and that of a logger: its readings, and behind them erased grids */
+enum { FRESH_TITLE = 10, FRESH_GRIDS = 512, FRESH = 9 + FRESH_TITLE + 8 * FRESH_GRIDS };
+enum { LOGGER_TITLE = 9, READINGS = 5, LOGGER_GRIDS = 16, LOGGER = 9 + LOGGER_TITLE + 8 * LOGGER_GRIDS };
+static const uint16_t readings[READINGS] = {512, 511, 498, 473, 441};
+
 static int write_card(const char *folder, const char *card, const uint8_t *image, unsigned long n)
 {
     char path[300];
@@ -29,11 +34,22 @@ static void write_name(uint8_t image[WRITTEN])
     second_image_write(name, TITLE, numbers, NUMBERS, image, WRITTEN);
 }
 
-/* switches the lamps of a grid that are 1 here, row 0 in the lowest byte */
-static void switch_lamps(uint8_t *image, unsigned grid, uint64_t lamps)
+/* writes so many of the readings; the other grids are all ones, as flash comes */
+static void write_readings(const char *title, unsigned length, unsigned logged, unsigned grids, uint8_t *image)
+{
+    uint16_t numbers[FRESH_GRIDS] = {0};
+    for (unsigned k = 0; k < logged; k++)
+        numbers[k] = readings[k];
+    second_image_write((const uint8_t *)title, length, numbers, grids, image, 9 + length + 8 * grids);
+    for (unsigned k = 8 * logged; k < 8 * grids; k++)
+        image[3 + length + 3 + k] = 0xFF;
+}
+
+/* switches the lamps of one of these grids that are 1 here, row 0 in the lowest byte */
+static void switch_lamps(uint8_t *grids, unsigned grid, uint64_t lamps)
 {
     for (unsigned r = 0; r < 8; r++)
-        image[FIRST_GRID + 8 * grid + r] ^= (uint8_t)(lamps >> 8 * r);
+        grids[8 * grid + r] ^= (uint8_t)(lamps >> 8 * r);
 }
 
 /* a block field with three flips in three rows, and an end, in the place of the end */
@@ -59,24 +75,42 @@ static void add_lost_block(uint8_t image[LOST_BLOCK])
     *to++ = 0;
 }
 
+/* seven lamps on a diagonal, one alone, seven of one row, and three of each of two rows; one grid stays clean */
+static void damage(uint8_t image[WRITTEN])
+{
+    switch_lamps(image + FIRST_GRID, 0, 0x0102040810204000);
+    switch_lamps(image + FIRST_GRID, 1, 0x0000000000000001);
+    switch_lamps(image + FIRST_GRID, 3, 0x00007F0000000000);
+    switch_lamps(image + FIRST_GRID, 4, 0x0000000000070007);
+}
+
+/* three lamps on a diagonal, seven of one column, and, of an erased grid, five of one row */
+static void damage_logger(uint8_t image[LOGGER])
+{
+    uint8_t *grids = image + 3 + LOGGER_TITLE + 3;
+    switch_lamps(grids, 1, 0x0000001008040000);
+    switch_lamps(grids, 3, 0x0080808080808080);
+    switch_lamps(grids, 9, 0x0000001F00000000);
+}
+
 int main(int n, char **words)
 {
     if (n != 2)
         return 1;
-    uint8_t written[WRITTEN], damaged[WRITTEN], lost[LOST_BLOCK];
+    uint8_t written[WRITTEN], damaged[WRITTEN], lost[LOST_BLOCK], fresh[FRESH], logger[LOGGER];
     write_name(written);
-
-    /* seven lamps on a diagonal, one alone, seven of one row, and three of each of two rows; one grid stays clean */
     memcpy(damaged, written, WRITTEN);
-    switch_lamps(damaged, 0, 0x0102040810204000);
-    switch_lamps(damaged, 1, 0x0000000000000001);
-    switch_lamps(damaged, 3, 0x00007F0000000000);
-    switch_lamps(damaged, 4, 0x0000000000070007);
+    damage(damaged);
 
     /* all eight lamps of a diagonal */
     memcpy(lost, written, WRITTEN);
-    switch_lamps(lost, 1, 0x8040201008040201);
+    switch_lamps(lost + FIRST_GRID, 1, 0x8040201008040201);
     add_lost_block(lost);
+
+    write_readings("Fresh Card", FRESH_TITLE, 0, FRESH_GRIDS, fresh);
+    write_readings("Balloon 7", LOGGER_TITLE, READINGS, LOGGER_GRIDS, logger);
+    damage_logger(logger);
     return !(write_card(words[1], "written.img", written, WRITTEN) && write_card(words[1], "damaged.img", damaged, WRITTEN) &&
-             write_card(words[1], "lost.img", lost, LOST_BLOCK) && write_card(words[1], "broken.img", damaged, CUT_OFF));
+             write_card(words[1], "lost.img", lost, LOST_BLOCK) && write_card(words[1], "broken.img", damaged, CUT_OFF) &&
+             write_card(words[1], "fresh.img", fresh, FRESH) && write_card(words[1], "logger.img", logger, LOGGER));
 }

@@ -1,5 +1,5 @@
-/* The library's grid beside the second program's. `grid` is called as `flip.h` says; the bits are 0 to 63 in a grid, and a seed alters
-   nothing, since nothing is drawn. */
+/* The library's grid beside the second program's. `grid` is called as `flip.h` says; the bits are 0 to 63 in a grid, 64 to 95 in the number
+   that is returned, and a seed alters nothing, since nothing is drawn. */
 #include "draw.h"
 #include "flip.h"
 #include "library.h"
@@ -8,25 +8,63 @@
 
 enum { VALUES = 65536, FLIPPED = 40961 };
 
+/* what an encoder returned, and the grid, where something else stood before */
+struct encoded {
+    uint64_t grid;
+    uint32_t returned;
+};
+
+static struct encoded encode(uint32_t encoder(uint16_t, uint64_t *), uint32_t number)
+{
+    struct encoded e = {.grid = word(number)};
+    e.returned = encoder((uint16_t)number, &e.grid);
+    return e;
+}
+
+static void compare_encoded(struct test *t, struct encoded a, struct encoded b, uint64_t at)
+{
+    compare(t, a.returned, b.returned, at);
+    compare(t, a.grid, b.grid, at);
+}
+
+static void flip(struct encoded *e, const uint64_t flips[FLIP_WORDS])
+{
+    e->grid ^= flips[0];
+    e->returned ^= (uint32_t)flips[1];
+}
+
 static void every_grid(void)
 {
-    struct test t = {.name = "encode, every data value"};
+    struct test t = {.name = "encode, every number"};
     for (uint32_t d = 0; d < VALUES; d++) {
-        uint64_t library = grid_encode((uint16_t)d), second = second_grid((uint16_t)d);
+        struct encoded library = encode(grid_encode, d), second = encode(second_encode, d);
         if (d == FLIPPED) {
-            library ^= flip_library[0];
-            second ^= flip_second[0];
+            flip(&library, flip_library);
+            flip(&second, flip_second);
         }
-        compare(&t, library, second, d);
+        compare_encoded(&t, library, second, d);
+    }
+    report(&t);
+}
+
+/* 0 to 65,534 are written, each as its codeword, and 65,535 alone is refused: 7, and the grid is 0 */
+static void refused_numbers(void)
+{
+    struct test t = {.name = "encode, 65535 alone is refused"};
+    for (uint32_t d = 0; d < VALUES; d++) {
+        struct encoded expected = {.grid = second_grid((uint16_t)d)}, refused = {.returned = 7};
+        compare_encoded(&t, encode(grid_encode, d), d < VALUES - 1 ? expected : refused, d);
     }
     report(&t);
 }
 
 static void plain_version(void)
 {
-    struct test t = {.name = "the plain version's encode, every data value"};
-    for (uint32_t d = 0; d < VALUES; d++)
+    struct test t = {.name = "the plain version's encode, every number"};
+    for (uint32_t d = 0; d < VALUES; d++) {
+        compare_encoded(&t, encode(plain_encode, d), encode(second_encode, d), d);
         compare(&t, plain_grid((uint16_t)d), second_grid((uint16_t)d), d);
+    }
     report(&t);
 }
 
@@ -41,13 +79,14 @@ static void worked_numbers(void)
         {8, 0xE800E8E8000000E8},
         {4096, 0x00B1B1B1B1000000},
         {15, 0xFF00FFFF000000FF},
-        {65535, 0xFFFFFFFFFFFFFFFF},
     };
     struct test t = {.name = "encode, the worked numbers"};
     for (unsigned k = 0; k < sizeof worked / sizeof *worked; k++) {
-        compare(&t, grid_encode(worked[k].data), worked[k].grid, k);
-        compare(&t, second_grid(worked[k].data), worked[k].grid, k);
+        struct encoded expected = {.grid = worked[k].grid};
+        compare_encoded(&t, encode(grid_encode, worked[k].data), expected, k);
+        compare_encoded(&t, encode(second_encode, worked[k].data), expected, k);
     }
+    compare(&t, second_grid(65535), 0xFFFFFFFFFFFFFFFF, 65535);
     report(&t);
 }
 
@@ -86,6 +125,7 @@ static void constants(void)
 static void all(void)
 {
     every_grid();
+    refused_numbers();
     plain_version();
     worked_numbers();
     rows();

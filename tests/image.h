@@ -59,10 +59,10 @@ static inline void begin(struct image *im, unsigned title)
     add_title(im, title);
 }
 
-/* clean, 1 to 7 flips, 8 flips, any word */
+/* clean, 1 to 7 flips, 8 flips, any word; a fourth of the codewords is the erased grid */
 static inline uint64_t draw_grid(void)
 {
-    uint64_t which = draw() % 8, codeword = second_grid((uint16_t)draw());
+    uint64_t which = draw() % 8, codeword = draw() % 4 == 0 ? ERASED_GRID : second_grid((uint16_t)draw());
     return which == 0 ? draw() : codeword ^ draw_places(UINT64_MAX, which < 3 ? 0 : which == 3 ? 8 : 1 + draw() % 7);
 }
 

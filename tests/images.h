@@ -195,6 +195,31 @@ static void long_images(use *use, struct test *t)
     }
 }
 
+/* An image of erased grids and, half of the times, numbers, of which none has flips but one that is erased. */
+static void draw_erased(unsigned grids, unsigned flips)
+{
+    unsigned numbers = (unsigned)(draw() % 2), where = (unsigned)(draw() % grids);
+    begin(&im, 1 + (unsigned)(draw() % LONGEST_TITLE));
+    add_head(&im, GRIDS, GRID_BYTES * grids);
+    for (unsigned k = 0; k < grids; k++)
+        if (k == where)
+            add_grid(&im, ERASED_GRID ^ draw_places(UINT64_MAX, flips));
+        else
+            add_grid(&im, numbers != 0 && draw() % 2 == 0 ? second_grid(draw_number()) : ERASED_GRID);
+    add_head(&im, END, 0);
+}
+
+/* a library that writes back only fields, or only pages of 64 grids, with mended grids leaves those flips where they are */
+static void erased(use *use, struct test *t)
+{
+    static const unsigned grids[] = {1, 2, 63, 64, 65, 128, 200, 511, 512};
+    for (unsigned k = 0; k < sizeof grids / sizeof *grids; k++)
+        for (unsigned flips = 0; flips <= 8; flips++) {
+            draw_erased(grids[k], flips);
+            use(t, &im);
+        }
+}
+
 /* every byte of the image set to every value */
 static void set_bytes(use *use, struct test *t)
 {
@@ -257,5 +282,6 @@ static const struct set sets[] = {
     {"images, 14 to 18 data fields", data_fields},
     {"images, every truncation of a small one", truncations},
     {"images, 32767 to 32769 bytes", long_images},
+    {"images, erased grids", erased},
     {"images, every byte of the least one set to every value", every_byte_of_the_least},
 };

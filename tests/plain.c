@@ -2,7 +2,11 @@
    in two trials. */
 #include "plain.h"
 
-enum { RADIUS = 7, LONGEST_PAGE = 512, LENGTH_NOT_ALLOWED = 3, LOST = 1 << 24, LOST_FLIPS = 255 };
+enum { RADIUS = 7, LONGEST_PAGE = 512, NUMBERS = 6, LENGTH_NOT_ALLOWED = 3, LOST = 1 << 24, LOST_FLIPS = 255 };
+
+/* all ones, its number, which is refused with 7, and its verdict */
+static const uint64_t ERASED = UINT64_MAX, BLANK = (uint64_t)1 << 32;
+enum { ERASED_NUMBER = 65535, NUMBER_REFUSED = 7, BLANK_FLIPS = 128 };
 
 /* The row with given data places. A row's check is what its check places have beyond that row's; the flips that leave a check are one if
    the check has an odd number of ones, two if it has an even number other than 0. */
@@ -32,7 +36,13 @@ uint64_t plain_grid(uint16_t data)
     return encode(data & 15, data >> 4 & 15, data >> 8 & 15, data >> 12);
 }
 
-/* The codeword with a word's data places: the word itself if it is clean. */
+uint32_t plain_encode(uint16_t data, uint64_t *grid)
+{
+    *grid = data == ERASED_NUMBER ? 0 : plain_grid(data);
+    return data == ERASED_NUMBER ? NUMBER_REFUSED : 0;
+}
+
+/* The codeword with a word's data places: the word itself if it is one. */
 static inline uint64_t encode_again(uint64_t word)
 {
     return encode(word & 15, word >> 8 & 15, word >> 16 & 15, word >> 24 & 15);
@@ -42,7 +52,7 @@ static inline uint64_t verdict(uint64_t codeword, uint32_t flips)
 {
     uint32_t data = codeword & 0x0F0F0F0F;
     data = (data | data >> 4) & 0x00FF00FF;
-    return ((data | data >> 8) & 0xFFFF) | flips << 16;
+    return (codeword == ERASED ? BLANK : ((data | data >> 8) & 0xFFFF)) | flips << 16;
 }
 
 /* The codeword that agrees with the rows, except in those set aside (bit 4r for row r, three at most) and, where at most one is, in one
@@ -128,30 +138,36 @@ void plain_decode(const uint64_t *words, uint64_t n, uint64_t *verdicts, uint64_
         }
 }
 
-void plain_scrub_bytes(uint8_t *grids, uint64_t n, uint32_t tally[5], uint64_t *pattern)
+void plain_scrub_bytes(uint8_t *grids, uint64_t n, uint32_t tally[NUMBERS], uint64_t *pattern)
 {
-    uint32_t clean = 0, lost = 0, flips = 0;
+    uint32_t blank = 0, mended = 0, lost = 0, flips = 0;
     for (uint64_t k = 0; k < n; k++) {
         uint64_t word, repaired;
         __builtin_memcpy(&word, grids + 8 * k, sizeof word);
         if (encode_again(word) == word) {
-            clean++;
+            blank += word == ERASED;
             continue;
         }
         uint64_t v = mend(word, &repaired);
         if (v == LOST) {
             lost++;
+            continue;
+        }
+        flips += v >> 16 & 255;
+        __builtin_memcpy(grids + 8 * k, &repaired, sizeof repaired);
+        if (repaired == ERASED) {
+            blank++;
         } else {
-            flips += v >> 16;
+            mended++;
             *pattern = word ^ repaired;
-            __builtin_memcpy(grids + 8 * k, &repaired, sizeof repaired);
         }
     }
     tally[0] += (uint32_t)n;
-    tally[1] += clean;
-    tally[2] += (uint32_t)n - clean - lost;
-    tally[3] += lost;
-    tally[4] += flips;
+    tally[1] += (uint32_t)n - blank - mended - lost;
+    tally[2] += blank;
+    tally[3] += mended;
+    tally[4] += lost;
+    tally[5] += flips;
 }
 
 void plain_encode_bytes(const uint16_t *data, uint64_t n, uint8_t *grids)
@@ -167,22 +183,17 @@ void plain_decode_bytes(const uint8_t *grids, uint64_t n, uint16_t *data, uint8_
     for (uint64_t k = 0; k < n; k++) {
         uint64_t word, repaired;
         __builtin_memcpy(&word, grids + 8 * k, sizeof word);
-        if (encode_again(word) == word) {
-            data[k] = (uint16_t)verdict(word, 0);
-            flips[k] = 0;
-        } else {
-            uint64_t v = mend(word, &repaired);
-            data[k] = (uint16_t)v;
-            flips[k] = v == LOST ? LOST_FLIPS : (uint8_t)(v >> 16);
-        }
+        uint64_t v = encode_again(word) == word ? verdict(word, 0) : mend(word, &repaired);
+        data[k] = (uint16_t)(v >= BLANK ? ERASED_NUMBER : v);
+        flips[k] = v == LOST ? LOST_FLIPS : (uint8_t)((v >> 16) + (v >= BLANK ? BLANK_FLIPS : 0));
     }
 }
 
-uint32_t plain_scrub(uint64_t *page, uint64_t n, uint32_t tally[5], uint64_t *pattern)
+uint32_t plain_scrub(uint64_t *page, uint64_t n, uint32_t tally[NUMBERS], uint64_t *pattern)
 {
     if (n > LONGEST_PAGE)
         return LENGTH_NOT_ALLOWED;
-    for (unsigned k = 0; k < 5; k++)
+    for (unsigned k = 0; k < NUMBERS; k++)
         tally[k] = 0;
     *pattern = 0;
     plain_scrub_bytes((uint8_t *)page, n, tally, pattern);

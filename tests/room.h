@@ -7,11 +7,11 @@
 void *memcpy(void *, const void *, unsigned long);
 int memcmp(const void *, const void *, unsigned long);
 
-enum { AROUND = 16, ROOM = 65536, TALLIES = 10 };
+enum { AROUND = 16, ROOM = 65536, TALLIES = 11 };
 
 /* how many places each slice has, in the order in which they stand */
 struct lengths {
-    uint64_t tallies, data, flips, title, image;
+    uint64_t tallies, data, flips, title, image, text;
 };
 
 struct state {
@@ -50,12 +50,17 @@ static inline uint8_t *image_in(struct state *s)
     return title_in(s) + s->lengths.title + AROUND;
 }
 
+static inline uint8_t *text_in(struct state *s)
+{
+    return image_in(s) + s->lengths.image + AROUND;
+}
+
 /* a room of these lengths, with any bytes in it */
 static inline void draw_state(struct state *s, struct lengths lengths)
 {
     s->lengths = lengths;
     s->returned = 0;
-    s->used = (uint64_t)(image_in(s) - s->room) + lengths.image + AROUND;
+    s->used = (uint64_t)(text_in(s) - s->room) + lengths.text + AROUND;
     for (uint64_t k = 0; k < s->used; k += sizeof(uint64_t)) {
         uint64_t any = draw();
         memcpy(s->room + k, &any, sizeof any);
@@ -74,12 +79,24 @@ static inline void compare_states(struct test *t, const struct state *a, const s
     compare(t, memcmp(a->room, b->room, a->used) == 0, 1, at);
 }
 
+static inline void flip_bytes(uint8_t *bytes, uint64_t flips)
+{
+    for (unsigned k = 0; k < 8 && flips != 0; k++)
+        bytes[k] ^= (uint8_t)(flips >> 8 * k);
+}
+
 /* what is flipped, once: in the number returned, in the first bytes of the image, and in the pattern */
 static inline void flip(struct state *s, uint64_t flips[FLIP_WORDS])
 {
     s->returned ^= flips[0];
-    for (unsigned k = 0; k < 8 && flips[1] != 0; k++)
-        image_in(s)[k] ^= (uint8_t)(flips[1] >> 8 * k);
+    flip_bytes(image_in(s), flips[1]);
     *pattern_in(s) ^= flips[2];
     flips[0] = flips[1] = flips[2] = 0;
+}
+
+/* the same in the first bytes of the text */
+static inline void flip_text(struct state *s, uint64_t flips[FLIP_WORDS])
+{
+    flip_bytes(text_in(s), flips[3]);
+    flips[3] = 0;
 }

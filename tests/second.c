@@ -6,7 +6,7 @@ int printf(const char *, ...);
 void exit(int);
 void *memchr(const void *, int, unsigned long);
 
-enum { VALUES = 65536, LONGEST_PAGE = 512, LENGTH_NOT_ALLOWED = 3, LOST = 1 };
+enum { VALUES = 65536, LONGEST_PAGE = 512, NUMBERS = 6, LENGTH_NOT_ALLOWED = 3, LOST = 1, ERASED = 7 };
 
 unsigned second_radius = 7;
 
@@ -53,6 +53,13 @@ uint64_t second_grid(uint16_t data)
         for (unsigned c = 0; c < 8; c++)
             number |= (uint64_t)g.at[r][c] << (8 * r + c);
     return number;
+}
+
+uint32_t second_encode(uint16_t number, uint64_t *grid)
+{
+    /* Number 65,535 given to the encoder: 7. */
+    *grid = number == ERASED_NUMBER ? 0 : second_grid(number);
+    return number == ERASED_NUMBER ? ERASED : 0;
 }
 
 unsigned second_distance(uint64_t a, uint64_t b)
@@ -119,39 +126,49 @@ struct answer second_decode(uint64_t word)
         exit(1);
     }
 
-    /* Otherwise the codeword is the answer: clean if n = 0, mended with n flips if not, which are the places that differ from it. */
+    /* Otherwise the codeword is the answer, and the places that differ from it are the flips. If it is all ones: blank, with its flips and
+       no data. If not: clean if n = 0, mended with n flips otherwise. */
     uint16_t data = (uint16_t)(one - counts);
     uint64_t codeword = second_grid(data);
-    return (struct answer){.data = data, .flips = n, .repaired = codeword, .pattern = second_pattern(word, codeword)};
+    struct answer a = {.flips = n, .repaired = codeword, .pattern = second_pattern(word, codeword)};
+    if (codeword == ERASED_GRID)
+        a.blank = 1;
+    else
+        a.data = data;
+    return a;
 }
 
-uint32_t second_scrub(uint64_t *page, uint64_t n, uint32_t tally[5], uint64_t *pattern)
+void second_count(struct answer a, uint32_t tally[NUMBERS], uint64_t *pattern)
+{
+    /* Grids = clean + blank + mended + lost. Flips is the sum over blank and mended grids. */
+    tally[0]++;
+    tally[5] += a.flips;
+    if (a.number != 0) {
+        tally[4]++;
+    } else if (a.blank) {
+        tally[2]++;
+    } else if (a.flips == 0) {
+        tally[1]++;
+    } else {
+        tally[3]++;
+        *pattern = a.pattern;
+    }
+}
+
+uint32_t second_scrub(uint64_t *page, uint64_t n, uint32_t tally[NUMBERS], uint64_t *pattern)
 {
     /* Page: 0 to 512 grids. A length not allowed: nothing written. */
     if (n > LONGEST_PAGE)
         return LENGTH_NOT_ALLOWED;
 
-    /* Each mended grid is replaced by its codeword; clean and lost grids are kept. Flips is the sum over mended grids, and the pattern that
-       of the last one. */
+    /* Each mended grid is replaced by its codeword, and a blank one by all ones; clean and lost grids are kept. */
     *pattern = 0;
-    uint32_t clean = 0, mended = 0, lost = 0, flips = 0;
+    for (unsigned k = 0; k < NUMBERS; k++)
+        tally[k] = 0;
     for (uint64_t k = 0; k < n; k++) {
         struct answer a = second_decode(page[k]);
-        if (a.number != 0) {
-            lost++;
-        } else if (a.flips == 0) {
-            clean++;
-        } else {
-            mended++;
-            flips += a.flips;
-            page[k] = a.repaired;
-            *pattern = a.pattern;
-        }
+        second_count(a, tally, pattern);
+        page[k] = a.repaired;
     }
-    tally[0] = (uint32_t)n;
-    tally[1] = clean;
-    tally[2] = mended;
-    tally[3] = lost;
-    tally[4] = flips;
     return 0;
 }

@@ -8,7 +8,8 @@ int snprintf(char *, unsigned long, const char *, ...);
 enum { LONGEST_IMAGE = 32768, LONGEST_TITLE = 24, LONGEST_GRIDS = 4096, MOST_NUMBERS = 512, MOST_DATA_FIELDS = 16 };
 enum { HEAD = 3, GRID_BYTES = 8, BLOCK_WORDS = 38, BLOCK_BYTES = 76 };
 enum { TITLE = 0x01, GRIDS = 0x02, BLOCK = 0x03, END = 0x7F };
-enum { LENGTH_NOT_ALLOWED = 3, BROKEN = 4, TOO_SHORT = 6, LOST_DATA = 0, LOST_FLIPS = 255 };
+enum { LENGTH_NOT_ALLOWED = 3, BROKEN = 4, TOO_SHORT = 6, ERASED = 7, LOST_DATA = 0, LOST_FLIPS = 255, BLANK_FLIPS = 128 };
+enum { GRID_NUMBERS = 6, BLOCK_NUMBERS = 5, TALLIES = GRID_NUMBERS + BLOCK_NUMBERS };
 
 /* Fields: one tag byte, two length bytes (high byte first), then the value. */
 struct field {
@@ -131,31 +132,28 @@ static struct answer decode(uint64_t word)
     return kept[k].answer;
 }
 
-/* Grids, clean, mended, lost and flips. Flips is the sum over mended ones. */
-static void count(uint32_t tally[5], uint32_t number, uint32_t flips)
-{
-    tally[0]++;
-    if (number != 0)
-        tally[3]++;
-    else if (flips == 0)
-        tally[1]++;
-    else
-        tally[2]++;
-    tally[4] += flips;
-}
-
-/* The pattern stays as it is unless the grid is mended. */
-static void scrub_grid(uint8_t *rows, uint32_t tally[5], uint64_t *pattern)
+static void scrub_grid(uint8_t *rows, uint32_t tally[GRID_NUMBERS], uint64_t *pattern)
 {
     struct answer a = decode(load_grid(rows));
     store_grid(rows, a.repaired);
-    count(tally, a.number, a.flips);
-    if (a.number == 0 && a.flips != 0)
-        *pattern = a.pattern;
+    second_count(a, tally, pattern);
+}
+
+/* Blocks, clean, mended, lost and flips. Flips is the sum over mended ones. */
+static void count_block(struct block_answer a, uint32_t tally[BLOCK_NUMBERS])
+{
+    tally[0]++;
+    if (a.number != 0)
+        tally[3]++;
+    else if (a.flips == 0)
+        tally[1]++;
+    else
+        tally[2]++;
+    tally[4] += a.flips;
 }
 
 /* Words in order, low byte first. */
-static void scrub_block(uint8_t *bytes, uint32_t tally[5])
+static void scrub_block(uint8_t *bytes, uint32_t tally[BLOCK_NUMBERS])
 {
     uint16_t words[BLOCK_WORDS];
     for (unsigned k = 0; k < BLOCK_WORDS; k++)
@@ -165,24 +163,24 @@ static void scrub_block(uint8_t *bytes, uint32_t tally[5])
         bytes[2 * k] = (uint8_t)(words[k] % 256);
         bytes[2 * k + 1] = (uint8_t)(words[k] / 256);
     }
-    count(tally, a.number, a.flips);
+    count_block(a, tally);
 }
 
-struct image_answer second_image_scrub(uint8_t *image, uint64_t n, uint32_t tallies[10], uint64_t *pattern)
+struct image_answer second_image_scrub(uint8_t *image, uint64_t n, uint32_t tallies[TALLIES], uint64_t *pattern)
 {
     struct image_answer a = look(image, n);
     if (a.number != 0)
         return a;
 
     /* It works on the value of each data field; all else stays. The pattern is that of the last mended grid over all fields. */
-    for (unsigned k = 0; k < 10; k++)
+    for (unsigned k = 0; k < TALLIES; k++)
         tallies[k] = 0;
     *pattern = 0;
     for (struct field f = field_at(image, 0); f.tag != END; f = field_at(image, f.next)) {
         for (uint32_t k = 0; f.tag == GRIDS && k < f.length; k += GRID_BYTES)
             scrub_grid(image + f.value + k, tallies, pattern);
         if (f.tag == BLOCK)
-            scrub_block(image + f.value, tallies + 5);
+            scrub_block(image + f.value, tallies + GRID_NUMBERS);
     }
     return (struct image_answer){0};
 }
@@ -197,12 +195,16 @@ static uint8_t *write_head(uint8_t *to, uint8_t tag, uint32_t length)
 
 struct image_answer second_image_write(const uint8_t *title, uint64_t t, const uint16_t *numbers, uint64_t k, uint8_t *image, uint64_t n)
 {
-    /* Title: 1 to 24 bytes. Numbers to write: 0 to 512. Then the first bad title byte, then the room: 9 + t + 8n bytes. */
+    /* Title: 1 to 24 bytes. Numbers to write: 0 to 512. Then the first bad title byte, then number 65,535, then the room: 9 + t + 8n
+       bytes. */
     if (t < 1 || t > LONGEST_TITLE || k > MOST_NUMBERS)
         return (struct image_answer){.number = LENGTH_NOT_ALLOWED};
     for (uint32_t place = 0; place < t; place++)
         if (!is_title_byte(title[place]))
             return (struct image_answer){.number = BROKEN, .place = place};
+    for (uint32_t i = 0; i < k; i++)
+        if (numbers[i] == ERASED_NUMBER)
+            return (struct image_answer){.number = ERASED};
     uint32_t needed = (uint32_t)(9 + t + 8 * k);
     if (n < needed)
         return (struct image_answer){.number = TOO_SHORT};
@@ -218,6 +220,17 @@ struct image_answer second_image_write(const uint8_t *title, uint64_t t, const u
     return (struct image_answer){.written = needed};
 }
 
+/* Reading back gives data 65,535 and flips plus 128 for a blank grid, data 0 and flips 255 for a lost one, flips 0 for a clean one. */
+static uint16_t shown_data(struct answer a)
+{
+    return (uint16_t)(a.number != 0 ? LOST_DATA : a.blank ? ERASED_NUMBER : a.data);
+}
+
+static uint8_t shown_flips(struct answer a)
+{
+    return (uint8_t)(a.number != 0 ? LOST_FLIPS : a.blank ? a.flips + BLANK_FLIPS : a.flips);
+}
+
 struct image_answer second_image_read(const uint8_t *image, uint64_t n, uint8_t *title, uint64_t t, uint16_t *data, uint64_t d,
                                       uint8_t *flips, uint64_t f)
 {
@@ -228,33 +241,34 @@ struct image_answer second_image_read(const uint8_t *image, uint64_t n, uint8_t 
     if (t < a.title || d < a.grids || f < a.grids)
         return (struct image_answer){.number = TOO_SHORT};
 
-    /* For each grid its data (0 if lost) and its flips (0 if clean, 255 if lost), at the grid's number. Blocks are passed over. */
+    /* For each grid its data and its flips, at the grid's number. Blocks are passed over. */
     for (uint32_t k = 0; k < a.title; k++)
         title[k] = image[HEAD + k];
     uint32_t grid = 0;
     for (struct field at = field_at(image, 0); at.tag != END; at = field_at(image, at.next))
         for (uint32_t k = 0; at.tag == GRIDS && k < at.length; k += GRID_BYTES, grid++) {
             struct answer read = decode(load_grid(image + at.value + k));
-            data[grid] = (uint16_t)(read.number == 0 ? read.data : LOST_DATA);
-            flips[grid] = (uint8_t)(read.number == 0 ? read.flips : LOST_FLIPS);
+            data[grid] = shown_data(read);
+            flips[grid] = shown_flips(read);
         }
     a.blocks = 0;
     return a;
 }
 
 /* The first line is the title; then the two tallies, in decimal. A refusal prints one line. */
-void second_bench(uint8_t *image, uint64_t n, char text[BENCH_TEXT])
+uint32_t second_bench(uint8_t *image, uint64_t n, char text[BENCH_TEXT])
 {
-    uint32_t tallies[10];
+    uint32_t g[TALLIES], *b = g + GRID_NUMBERS;
     uint64_t pattern;
-    struct image_answer a = second_image_scrub(image, n, tallies, &pattern);
+    struct image_answer a = second_image_scrub(image, n, g, &pattern);
     if (a.number == BROKEN)
-        snprintf(text, BENCH_TEXT, "refused 4 at %u\n", a.place);
-    else if (a.number != 0)
-        snprintf(text, BENCH_TEXT, "refused %u\n", a.number);
-    else
-        snprintf(text, BENCH_TEXT,
-                 "title %.*s\ngrids %u clean %u mended %u lost %u flips %u\nblocks %u clean %u mended %u lost %u flips %u\n",
-                 (int)look(image, n).title, (const char *)image + HEAD, tallies[0], tallies[1], tallies[2], tallies[3], tallies[4],
-                 tallies[5], tallies[6], tallies[7], tallies[8], tallies[9]);
+        return (uint32_t)snprintf(text, BENCH_TEXT, "refused 4 at %u\n", a.place);
+    if (a.number != 0)
+        return (uint32_t)snprintf(text, BENCH_TEXT, "refused %u\n", a.number);
+    return (uint32_t)snprintf(text, BENCH_TEXT,
+                              "title %.*s\n"
+                              "grids %u clean %u blank %u mended %u lost %u flips %u\n"
+                              "blocks %u clean %u mended %u lost %u flips %u\n",
+                              (int)look(image, n).title, (const char *)image + HEAD, g[0], g[1], g[2], g[3], g[4], g[5], b[0], b[1], b[2],
+                              b[3], b[4]);
 }

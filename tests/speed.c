@@ -9,11 +9,12 @@
 int atoi(const char *);
 int strcmp(const char *, const char *);
 
-enum { WORDS = 1000, PAGE = 500, NUMBERS = 5, BLOCKS = 200, BLOCK_DATA = 32, BLOCK_WORDS = 38 };
+enum { WORDS = 1000, PAGE = 500, NUMBERS = 6, BLOCKS = 200, BLOCK_DATA = 32, BLOCK_WORDS = 38 };
 
-/* An answer is the flips, and from bit 8 on the refusal's number, for a word and a block alike; for a grid of a page or of an image it is
-   1 if clean, for the check of an image what that returns, and for a number that is written or read back 1. */
-enum { GRID_LOST = 1 << 8, BLOCK_LOST = 2 << 8 };
+/* An answer is the flips, and from bit 8 on the refusal's number, for a word and a block alike, with bit 16 where a word is blank; for a
+   grid of a page or of an image it is 1 if clean and 2 if blank, for the check of an image what that returns, and for a number that is
+   written or read back 1. */
+enum { GRID_LOST = 1 << 8, BLOCK_LOST = 2 << 8, BLANK = 1 << 16, PAGE_CLEAN = 1, PAGE_BLANK = 2 };
 
 /* what is decoded and scrubbed, and the answers */
 static uint64_t words[WORDS], verdicts[WORDS], repaired[WORDS], patterns[WORDS];
@@ -27,13 +28,13 @@ static uint64_t flips;
 static void library_encoding(uint32_t n)
 {
     for (uint32_t k = 0; k < n; k++)
-        repaired[0] ^= grid_encode(value(k));
+        returned += grid_encode(value(k), repaired);
 }
 
 static void plain_encoding(uint32_t n)
 {
     for (uint32_t k = 0; k < n; k++)
-        repaired[0] ^= plain_grid(value(k));
+        returned += plain_encode(value(k), repaired);
 }
 
 static void library_decoding(uint32_t n)
@@ -99,6 +100,12 @@ static void prepare_words(void)
         words[w] = plain_grid(value(w)) ^ flips;
 }
 
+static void prepare_erased(void)
+{
+    for (uint32_t w = 0; w < WORDS; w++)
+        words[w] = UINT64_MAX ^ flips;
+}
+
 static void prepare_blocks(void)
 {
     for (uint32_t k = 0; k < BLOCKS; k++)
@@ -124,8 +131,9 @@ static const struct kind image_checking = {library_image_checking, plain_image_c
 static const struct kind image_writing = {library_image_writing, plain_image_writing, WRITTEN_NUMBERS};
 static const struct kind image_reading = {library_image_reading, plain_image_reading, WRITTEN_NUMBERS};
 
-/* Each with what it works on, what every answer has to be, and the places that are flipped in every grid. From `clean` to `lost` a word is
-   decoded; `page-clean` is for one grid of a page, `image-clean` for one of an image. The blocks are any words. */
+/* Each with what it works on, what every answer has to be, and the places that are flipped in every grid. From `clean` to `blank-flips` a
+   word is decoded; `page-clean` and `page-blank` are for one grid of a page, `image-clean` is for one of an image. The blocks are any
+   words. */
 static const struct {
     const char *name;
     const struct kind *kind;
@@ -140,8 +148,11 @@ static const struct {
     {"flip-7", &decoding, prepare_words, 7, 0x0102040810204000},
     {"both-trials", &decoding, prepare_words, 6, 0x0000000000070007},
     {"lost", &decoding, prepare_words, GRID_LOST, 0x000000B1000000B1},
-    {"page-clean", &scrubbing, prepare_words, 1, 0},
-    {"image-clean", &image_scrubbing, prepare_longest, 1, 0},
+    {"blank", &decoding, prepare_erased, BLANK, 0},
+    {"blank-flips", &decoding, prepare_erased, BLANK | 3, 0x0000400002000001},
+    {"page-clean", &scrubbing, prepare_words, PAGE_CLEAN, 0},
+    {"page-blank", &scrubbing, prepare_erased, PAGE_BLANK, 0},
+    {"image-clean", &image_scrubbing, prepare_longest, PAGE_CLEAN, 0},
     {"image-check-8", &image_checking, prepare_longest, IMAGE_GRIDS, 0},
     {"image-check-16", &image_checking, prepare_sixteen, 16 | 8 << 16, 0},
     {"image-write", &image_writing, prepare_written, 1, 0},
@@ -202,7 +213,7 @@ static const struct kind *prepared(const char *name, uint32_t *answer)
 /* the sum of the answers; what is read back is to have no flips */
 static uint32_t answers(void)
 {
-    uint32_t sum = tally[1] + returned;
+    uint32_t sum = PAGE_CLEAN * tally[1] + PAGE_BLANK * tally[2] + returned;
     for (uint32_t w = 0; w < WORDS; w++)
         sum += (uint32_t)(verdicts[w] >> 16);
     for (uint32_t k = 0; k < WRITTEN_NUMBERS; k++)

@@ -6,7 +6,7 @@
 void *memcpy(void *, const void *, unsigned long);
 
 enum { TITLE = 0x01, GRIDS = 0x02, BLOCK = 0x03, END = 0x7F };
-enum { IMAGE = 32768, TITLE_BYTES = 10, FIELD_GRIDS = 512, BLOCK_BYTES = 76, TALLIES = 10 };
+enum { IMAGE = 32768, TITLE_BYTES = 10, FIELD_GRIDS = 512, BLOCK_BYTES = 76, TALLIES = 11 };
 
 /* the grids of the longest image with such a title: they stand in eight fields, all of them full but for the last */
 enum { IMAGE_GRIDS = 4091 };
@@ -26,6 +26,7 @@ static uint8_t read_title[TITLE_BYTES], read_flips[WRITTEN_NUMBERS];
 static uint32_t tally[TALLIES], returned;
 static uint64_t pattern;
 
+/* of the first 34,937 none is 65,535 */
 static uint16_t value(uint32_t k)
 {
     return (uint16_t)(k * 40503);

@@ -9,24 +9,37 @@
 int strcmp(const char *, const char *);
 int dprintf(int, const char *, ...);
 
-enum { ROUNDS = 20, PAGE = 512, NUMBERS = 5, TALLIES = 10, BLOCK_DATA = 32, MOST_NUMBERS = 512, MOST_GRIDS = LONGEST_IMAGE / GRID_BYTES };
+enum { ROUNDS = 20, PAGE = 512, NUMBERS = 6, TALLIES = 11, BLOCK_DATA = 32, MOST_NUMBERS = 512, MOST_GRIDS = LONGEST_IMAGE / GRID_BYTES };
 
 static const uint64_t ALL = UINT64_MAX, LOW = UINT32_MAX, NONE = 0;
 static const uint64_t LENGTH_NOT_ALLOWED = 3, TOO_SHORT = (uint64_t)6 << 32;
 
-/* What is flipped in a grid, and its verdict from bit 16 on: clean; mended after one, three and seven flips, and by the second trial;
-   lost. */
+/* What is flipped in a grid, its verdict from bit 16 on, and whether it is the erased one: clean; mended after one, three and seven flips,
+   and by the second trial; lost; blank, without flips, and as the mended ones. */
 static const struct {
     uint64_t flips, verdict;
-} kinds[] = {{0, 0}, {0x0000000000000001, 1}, {0x0000400002000001, 3}, {0x0102040810204000, 7}, {0x0000000000070007, 6},
-             {0x000000B1000000B1, 1 << 8}};
+    int erased;
+} kinds[] = {{0, 0, 0},
+             {0x0000000000000001, 1, 0},
+             {0x0000400002000001, 3, 0},
+             {0x0102040810204000, 7, 0},
+             {0x0000000000070007, 6, 0},
+             {0x000000B1000000B1, 1 << 8, 0},
+             {0, 1 << 16, 1},
+             {0x0102040810204000, 1 << 16 | 7, 1},
+             {0x0000000000070007, 1 << 16 | 6, 1}};
 enum { KINDS = sizeof kinds / sizeof *kinds };
+
+static uint64_t draw_kind(unsigned kind)
+{
+    return (kinds[kind].erased ? ERASED_GRID : second_grid(draw_number())) ^ kinds[kind].flips;
+}
 
 /* what the calls write to */
 static uint64_t verdicts[PAGE], repaired[PAGE], patterns[PAGE];
 static uint32_t tallies[TALLIES];
 static uint16_t data[MOST_GRIDS], block_pattern[BLOCK_WORDS];
-static uint8_t title[LONGEST_TITLE + 1], flips[MOST_GRIDS];
+static uint8_t title[LONGEST_TITLE + 1], flips[MOST_GRIDS], text[LONGEST_LINES];
 
 /* whether the plain version is called, which is not told the lengths of what it decodes to, nor of its tallies */
 static int plain_side;
@@ -34,8 +47,10 @@ static int plain_side;
 static void encode_grids(struct test *t)
 {
     for (unsigned k = 0; k < MANY; k++) {
-        uint16_t value = (uint16_t)draw();
-        make_call(t, room, 0, (uint64_t[ARGUMENTS]){value}, second_grid(value));
+        uint64_t grid;
+        uint16_t value = k == 0 ? ERASED_NUMBER : (uint16_t)draw();
+        make_call(t, room, 0, (uint64_t[ARGUMENTS]){value, address(repaired)}, second_encode(value, &grid));
+        compare(t, repaired[0], grid, t->compared);
     }
 }
 
@@ -43,7 +58,7 @@ static void encode_grids(struct test *t)
 static void draw_page(uint64_t page[PAGE + 1], unsigned round)
 {
     for (unsigned k = 0; k <= PAGE; k++)
-        page[k] = round < KINDS ? second_grid((uint16_t)draw()) ^ kinds[round].flips : draw_grid();
+        page[k] = round < KINDS ? draw_kind(round) : draw_grid();
 }
 
 static void decode_grids(struct test *t)
@@ -124,7 +139,7 @@ static void add_full(unsigned kind)
 {
     add_head(&im, GRIDS, LONGEST_GRIDS);
     for (unsigned k = 0; k < PAGE; k++)
-        add_grid(&im, second_grid((uint16_t)draw()) ^ kinds[kind].flips);
+        add_grid(&im, draw_kind(kind));
 }
 
 /* Sixteen data fields, full grids fields behind all others: so many of them, which are all of one kind, behind blocks or empty fields. With
@@ -179,6 +194,18 @@ static void read_image(struct test *t, struct image *im)
     make_call(t, im->bytes, im->n, arguments, a.number == 0 ? TOO_SHORT : image_number(a, 0));
 }
 
+/* with room for the lines, and with a byte less; what they are, `card` looks at */
+static void lay_lines(struct test *t, struct image *im)
+{
+    static struct image scrubbed;
+    char printed[BENCH_TEXT];
+    scrubbed = *im;
+    uint64_t arguments[ARGUMENTS] = {address(room), im->n, address(text), LONGEST_LINES};
+    make_call(t, im->bytes, im->n, arguments, second_bench(scrubbed.bytes, im->n, printed));
+    arguments[3] = LONGEST_LINES - 1;
+    make_call(t, im->bytes, im->n, arguments, TOO_SHORT);
+}
+
 static void check_images(struct test *t)
 {
     use_images(check_image, t);
@@ -194,7 +221,13 @@ static void read_images(struct test *t)
     use_images(read_image, t);
 }
 
-/* titles of 0 to 25 bytes, sound ones and ones with a bad byte, and rooms that are just long enough and too short */
+static void lay_lines_of_images(struct test *t)
+{
+    use_images(lay_lines, t);
+}
+
+/* titles of 0 to 25 bytes, sound ones and ones with a bad byte, rooms that are just long enough and too short, and a number that is
+   refused */
 static void write_images(struct test *t)
 {
     static const uint64_t numbers[] = {0, 1, MOST_NUMBERS, MOST_NUMBERS + 1};
@@ -205,7 +238,9 @@ static void write_images(struct test *t)
             for (uint64_t p = 0; p < length; p++)
                 title[p] = (uint8_t)(0x20 + draw() % (k / 2 % 2 == 0 ? 95 : 96));
             for (uint64_t p = 0; p < n; p++)
-                data[p] = (uint16_t)draw();
+                data[p] = draw_number();
+            if (n > 0 && length % 5 == 0)
+                data[draw() % n] = ERASED_NUMBER;
             struct image_answer a = second_image_write(title, length, data, n, written, bytes);
             make_call(t, room, 0, (uint64_t[ARGUMENTS]){address(title), length, address(data), n, address(room), bytes},
                       image_number(a, a.written));
@@ -219,7 +254,7 @@ static const struct {
     uint64_t returned;
     void (*make)(struct test *);
 } operations[] = {
-    {"grid-encode", (function *)grid_encode, (function *)plain_grid, ALL, encode_grids},
+    {"grid-encode", (function *)grid_encode, (function *)plain_encode, LOW, encode_grids},
     {"grid-decode", (function *)grid_decode, (function *)plain_decode, NONE, decode_grids},
     {"page-scrub", (function *)page_scrub, (function *)plain_scrub, LOW, scrub_pages},
     {"block-encode", (function *)block_encode, (function *)plain_block_encode, LOW, encode_blocks},
@@ -228,6 +263,7 @@ static const struct {
     {"image-scrub", (function *)image_scrub, (function *)plain_image_scrub, ALL, scrub_images},
     {"image-write", (function *)image_write, (function *)plain_image_write, ALL, write_images},
     {"image-read", (function *)image_read, (function *)plain_image_read, ALL, read_images},
+    {"image-lines", (function *)image_lines, (function *)plain_image_lines, ALL, lay_lines_of_images},
 };
 
 int main(int n, char **words)

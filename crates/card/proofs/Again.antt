@@ -11,11 +11,13 @@ use Rattle.words.proofs.Digits.{length-digits}
 use Rattle.words.proofs.Lists.{map-twice}
 use Rattle.words.proofs.Bytes.{length-bytes, below-map}
 use Rattle.codes.specs.Verdict.{scrubbed}
-use Rattle.codes.specs.Tally.{tallyOf, Again, TallyPromises}
+use Rattle.codes.specs.Tally as codes
+use Rattle.codes.specs.Tally.{tallyOf, TallyPromises}
 use Rattle.codes.proofs.Tally.{scrubbed-lt, tallies}
 use Rattle.grid_code.specs.Code.{gridCode}
 use Rattle.grid_code.proofs.Promises as grid
-use Rattle.page.proofs.Promises.{laws}
+use Rattle.page.specs.Tally.{gridTally, Again}
+use Rattle.page.proofs.Counts as page
 use Rattle.block_code.specs.Code.{blockCode}
 use Rattle.block_code.proofs.Promises as blocks
 use Rattle.image.specs.Card.{Part, grids, block, Card, gridsIn, blocksIn, head, partBytes, partsBytes, frontOf, imageOf}
@@ -48,11 +50,11 @@ same-frame c = record {
 
 -- what is counted the second time
 pub second : (ps : List Part)
-    → Again (tallyOf gridCode (gridsIn ps)) (tallyOf gridCode (gridsIn (map scrubbedPart ps)))
-    × Again (tallyOf blockCode (blocksIn ps)) (tallyOf blockCode (blocksIn (map scrubbedPart ps)))
+    → Again (gridTally (gridsIn ps)) (gridTally (gridsIn (map scrubbedPart ps)))
+    × codes.Again (tallyOf blockCode (blocksIn ps)) (tallyOf blockCode (blocksIn (map scrubbedPart ps)))
 second ps = (
-  subst (λ ws. Again (tallyOf gridCode (gridsIn ps)) (tallyOf gridCode ws)) (sym (grids-scrubbed ps)) (laws .again (gridsIn ps)),
-  subst (λ ws. Again (tallyOf blockCode (blocksIn ps)) (tallyOf blockCode ws)) (sym (blocks-scrubbed ps)) (block-laws .again (blocksIn ps)),
+  subst (λ ws. Again (gridTally (gridsIn ps)) (gridTally ws)) (sym (grids-scrubbed ps)) (page.tallies .again (gridsIn ps)),
+  subst (λ ws. codes.Again (tallyOf blockCode (blocksIn ps)) (tallyOf blockCode ws)) (sym (blocks-scrubbed ps)) (block-laws .again (blocksIn ps)),
 )
 
 -- ---- it can stand in an image
@@ -122,7 +124,7 @@ same-length c =
 -- ---- a second scrub changes nothing
 
 part-twice : (p : Part) → scrubbedPart (scrubbedPart p) ≡ scrubbedPart p
-part-twice (grids ws) = ap grids (map-twice (scrubbed gridCode) (laws .unchanged) ws)
+part-twice (grids ws) = ap grids (map-twice (scrubbed gridCode) (tallies gridCode (grid.promised .verdicts) .unchanged) ws)
 part-twice (block w) = ap block (block-laws .unchanged w)
 
 pub twice : (c : Card) → scrubbedCard (scrubbedCard c) ≡ scrubbedCard c

@@ -12,10 +12,10 @@ use Rattle.words.proofs.Bytes.{take-laid, drop-laid}
 use Rattle.refusals.specs.Reply.{gives}
 use Rattle.refusals.proofs.Promises.{nothing-given}
 use Rattle.codes.specs.Verdict.{patternOf}
-use Rattle.codes.specs.Tally.{lastPattern, LastMended, AddsUp, Again}
+use Rattle.codes.specs.Tally as codes
 use Rattle.grid_code.specs.Code.{codeword, gridCode}
-use Rattle.page.specs.Answer.{tallyIn as gridsTally}
-use Rattle.page.proofs.Promises.{laws}
+use Rattle.page.specs.Tally.{lastPattern, LastMended, AddsUp, Again}
+use Rattle.page.proofs.Counts.{tallies}
 use Rattle.fields.specs.Fields.{firstBad}
 use Rattle.image.specs.declared.CheckAnswer.{CheckAnswer}
 use Rattle.image.specs.Card.{Card, sound, mostBytes, gridsIn, blocksIn, cardOf, imageOf}
@@ -32,12 +32,13 @@ use Rattle.card_scrub.specs.Answer.{means as scrubMeans}
 use Rattle.card_scrub.specs.Calls.{scrubbedPart, scrubbedCard, talliesOf, Scrubbed}
 use Rattle.card_write.specs.declared.WriteAnswer.{WriteAnswer}
 use Rattle.card_write.specs.Answer.{means as writeMeans}
-use Rattle.card_write.specs.Calls.{cardOn, cardWith, sizeWritten, lengthsAllowed, Wrote}
+use Rattle.card_write.specs.declared.WriteAnswer.the-variants.{Done, Refused}
+use Rattle.card_write.specs.Calls.{cardOn, cardWith, sizeWritten, lengthsAllowed, noneErased, Wrote}
 use Rattle.card_write.proofs.Writes as write
-use Rattle.card_write.proofs.Writes.{no-image, image-written, same, not-allowed, bad-byte, no-room, done}
+use Rattle.card_write.proofs.Writes.{no-image, image-written, same, not-allowed, bad-byte, one-erased, no-room, all-well, each-stored, all-stored, erased-there}
 use Rattle.card_read.specs.Calls.{Read}
 use Rattle.card_read.proofs.Readings as read
-use Rattle.card.specs.Promises.{ScrubPromises, Switched, WritePromises, OneOutcome}
+use Rattle.card.specs.Promises.{ScrubPromises, Switched, AllStored, WritePromises, OneOutcome}
 use Rattle.card.proofs.Again.{block-laws, same-frame, second, still-proper, same-length, twice}
 use Rattle.card.proofs.Switches.{put-right, none-switched, no-flips, length-on, lengths, few, found-on, read-on}
 
@@ -70,22 +71,22 @@ module _ (s exit : List ℕ) (r : ScrubAnswer) (t : Tallies) (h : Scrubbed s r e
       go (card-found c l e) = let (a, b) = found h c l e in record { card = c; few = l; is = e; tally = cc; after = b }
       go (no-card why f) = nothing-given why (sym (ap scrubMeans (h .answer ∙ f ScrubAnswer ScrubRefused _)) ∙ m)
 
-  sums : AddsUp (gridsTally (t .grids)) × AddsUp (blocksTally (t .blocks))
+  sums : AddsUp (t .grids) × codes.AddsUp (blocksTally (t .blocks))
   sums =
       let ps = after-scrub .card .parts in
-      subst (λ t. AddsUp (gridsTally (t .grids)) × AddsUp (blocksTally (t .blocks))) (sym (after-scrub .tally))
-      (laws .all (gridsIn ps), block-laws .all (blocksIn ps))
+      subst (λ t. AddsUp (t .grids) × codes.AddsUp (blocksTally (t .blocks))) (sym (after-scrub .tally))
+      (tallies .all (gridsIn ps), block-laws .all (blocksIn ps))
 
-  last : (c : Card) (i : ℕ) → cardOf s ≡ sound c → LastMended gridCode (gridsIn (c .parts)) i
+  last : (c : Card) (i : ℕ) → cardOf s ≡ sound c → LastMended (gridsIn (c .parts)) i
       → t .grids .pattern ≡ patternOf gridCode (getD (gridsIn (c .parts)) i 0)
   last c i e h =
       let same : after-scrub .card ≡ c = cc (after-scrub .is) in
-      ap (λ t. t .grids .pattern) (after-scrub .tally) ∙ ap (λ c. lastPattern gridCode (gridsIn (c .parts))) same ∙ laws .last (gridsIn (c .parts)) i h
+      ap (λ t. t .grids .pattern) (after-scrub .tally) ∙ ap (λ c. lastPattern (gridsIn (c .parts))) same ∙ tallies .last (gridsIn (c .parts)) i h
 
   no-last : t .grids .mended ≡ 0 → t .grids .pattern ≡ 0
   no-last z =
       let is = after-scrub .tally in
-      ap (λ t. t .grids .pattern) is ∙ laws .no-last (gridsIn (after-scrub .card .parts)) (sym (ap (λ t. t .grids .mended) is) ∙ z)
+      ap (λ t. t .grids .pattern) is ∙ tallies .no-last (gridsIn (after-scrub .card .parts)) (sym (ap (λ t. t .grids .mended) is) ∙ z)
 
   module _ (b : Below 8 s) where
     abbrev card : Card
@@ -101,21 +102,15 @@ module _ (s exit : List ℕ) (r : ScrubAnswer) (t : Tallies) (h : Scrubbed s r e
     long-now = ap length (after-scrub .after) ∙ same-length card ∙ ap length (shape .1)
 
     again : (q : ScrubAnswer) (last : List ℕ) → Scrubbed exit q last
-        → (u : Tallies) × (scrubMeans q ≡ gives u) × Again (gridsTally (t .grids)) (gridsTally (u .grids))
-        × Again (blocksTally (t .blocks)) (blocksTally (u .blocks)) × (u .grids .pattern ≡ 0) × (last ≡ exit)
+        → (u : Tallies) × (scrubMeans q ≡ gives u) × Again (t .grids) (u .grids)
+        × codes.Again (blocksTally (t .blocks)) (blocksTally (u .blocks)) × (last ≡ exit)
     again q last k =
         let (a, e) = found k (scrubbedCard card) (omega (arith, after-scrub .few, long-now)) is-now in
         let u = talliesOf (map scrubbedPart (card .parts)) in
         let (g, b) =
-        subst (λ t. Again (gridsTally (t .grids)) (gridsTally (u .grids)) × Again (blocksTally (t .blocks)) (blocksTally (u .blocks)))
-        (sym (after-scrub .tally)) (second (card .parts)) in (
-          u,
-          a,
-          g,
-          b,
-          laws .no-last (gridsIn (map scrubbedPart (card .parts))) (g .none-mended),
-          e ∙ ap imageOf (twice card) ∙ sym (after-scrub .after),
-        )
+        subst (λ t. Again (t .grids) (u .grids) × codes.Again (blocksTally (t .blocks)) (blocksTally (u .blocks)))
+        (sym (after-scrub .tally)) (second (card .parts)) in
+        (u, a, g, b, e ∙ ap imageOf (twice card) ∙ sym (after-scrub .after))
 
 pub scrub-promised : ScrubPromises
 scrub-promised = record {
@@ -139,12 +134,13 @@ not-written {title} {ns} {image} {exit} h n = go (write.decided title ns image)
   where
     go : write.Decided title ns image → exit ≡ image
     go (no-image why d) = same h d .1
-    go (image-written a g d) = absurd (n (sizeWritten title ns) (ap writeMeans (same h d .0)))
+    go (image-written a g n′ l d) = absurd (n (sizeWritten title ns) (ap writeMeans (same h d .0)))
 
 -- what was done, and is no refusal
 record AfterWrite (title ns image exit : List ℕ) (k : ℕ) : Type 0 where
   pub allowed : lengthsAllowed title ns ≡ true
   pub good : firstBad title ≡ length title
+  pub stored : noneErased ns ≡ true
   pub long : k ≡ sizeWritten title ns
   pub after : exit ≡ laid (imageOf (cardWith title ns)) image
 
@@ -154,7 +150,7 @@ module _ (title ns image exit : List ℕ) (r : WriteAnswer) (k : ℕ) (h : Wrote
     where
       go : write.Decided title ns image → AfterWrite title ns image exit k
       go (no-image why d) = nothing-given why (sym (ap writeMeans (same h d .0)) ∙ m)
-      go (image-written a g d) = let (p, q) = same h d in record { allowed = a; good = g; long = cc (ap writeMeans p); after = q }
+      go (image-written a g n l d) = let (p, q) = same h d in record { allowed = a; good = g; stored = n; long = cc (ap writeMeans p); after = q }
 
   size-is : length (imageOf (cardWith title ns)) ≡ k
   size-is = let l = length-map ns codeword in omega (arith, length-on title (map codeword ns), l, after-write .long)
@@ -168,6 +164,9 @@ module _ (title ns image exit : List ℕ) (r : WriteAnswer) (k : ℕ) (h : Wrote
   module _ (small : Below 16 ns) where
     none : Switched ns (map codeword ns)
     none = none-switched ns small
+
+    stored : AllStored ns
+    stored = each-stored ns (after-write .stored)
 
     is-sound : cardOf (take k exit) ≡ sound (cardWith title ns)
     is-sound = ap cardOf image-is ∙ found-on title ns (after-write .allowed) (after-write .good) (map codeword ns) none
@@ -186,29 +185,36 @@ module _ (title ns image exit : List ℕ) (r : WriteAnswer) (k : ℕ) (h : Wrote
     restored ws last q s d =
         let (a, e) = found d (cardOn title ws) (few title ns (after-write .allowed) (after-write .good) ws s)
         (found-on title ns (after-write .allowed) (after-write .good) ws s) in
-        (a, e ∙ ap (λ ws. imageOf (cardOn title ws)) (put-right ns ws small s) ∙ sym image-is)
+        (a, e ∙ ap (λ ws. imageOf (cardOn title ws)) (put-right ns ws small stored s) ∙ sym image-is)
 
 pub write-promised : WritePromises
 write-promised = record {
   refused = λ title ns image exit r h n. not-written h n;
-  lengths = λ title ns image exit r h e. ap writeMeans (same h (not-allowed title ns image e) .0);
-  bad-byte = λ title ns image exit r h e n. ap writeMeans (same h (bad-byte title ns image e n) .0);
-  short = λ title ns image exit r h e n l. ap writeMeans (same h (no-room title ns image e n l) .0);
-  accepted = λ title ns image exit r h e n l. ap writeMeans (same h (done title ns image e n l) .0);
+  lengths = λ title ns image exit r h e.
+      ap writeMeans (h .answer ∙ sym (not-allowed title ns (length image) Refused (Done (sizeWritten title ns)) e));
+  bad-byte = λ title ns image exit r h e n.
+      ap writeMeans (h .answer ∙ sym (bad-byte title ns (length image) Refused (Done (sizeWritten title ns)) e n));
+  erased-number = λ title ns image exit r i h e n l z.
+      ap writeMeans (h .answer ∙ sym (one-erased title ns (length image) Refused (Done (sizeWritten title ns)) e n (erased-there ns i l z)));
+  short = λ title ns image exit r h e n s l.
+      ap writeMeans (h .answer ∙ sym (no-room title ns (length image) Refused (Done (sizeWritten title ns)) e n (all-stored ns s) l));
+  accepted = λ title ns image exit r h e n s l.
+      ap writeMeans (h .answer ∙ sym (all-well title ns (length image) Refused (Done (sizeWritten title ns)) e n (all-stored ns s) l));
   written = λ title ns image exit r k h m.
       (after-write title ns image exit r k h m .long, image-is title ns image exit r k h m, behind-is title ns image exit r k h m);
   is-sound = λ title ns image exit r k small h m. is-sound title ns image exit r k h m small;
   checks = λ title ns image exit r k q small h m c. checks title ns image exit r k h m small q c;
   reads-back = λ title ns image exit title₀ ns₀ flips₀ title₁ ns₁ flips₁ r k q small h m l₀ l₁ l₂ d.
       let w = after-write title ns image exit r k h m in
+      let stored : AllStored ns = each-stored ns (w .stored) in
       let (a, t, n, f) =
-      read-on title ns (w .allowed) (w .good) (map codeword ns) (none-switched ns small) title₀ ns₀ flips₀ l₀ l₁ l₂ q title₁ ns₁ flips₁ small
+      read-on title ns (w .allowed) (w .good) (map codeword ns) (none-switched ns small) title₀ ns₀ flips₀ l₀ l₁ l₂ q title₁ ns₁ flips₁ small stored
       (subst (λ s. Read s title₀ ns₀ flips₀ q title₁ ns₁ flips₁) (image-is title ns image exit r k h m) d) in
-      (a, t, n, f ∙ ap (λ l. laid l flips₀) (no-flips ns small));
+      (a, t, n, f ∙ ap (λ l. laid l flips₀) (no-flips ns small stored));
   restored = λ title ns image exit ws last r k q small h m s d. restored title ns image exit r k h m small ws last q s d;
   read-before = λ title ns image exit ws title₀ ns₀ flips₀ title₁ ns₁ flips₁ r k q small h m s l₀ l₁ l₂ d.
       let w = after-write title ns image exit r k h m in
-      let (a, t, n, f) = read-on title ns (w .allowed) (w .good) ws s title₀ ns₀ flips₀ l₀ l₁ l₂ q title₁ ns₁ flips₁ small d in
+      let (a, t, n, f) = read-on title ns (w .allowed) (w .good) ws s title₀ ns₀ flips₀ l₀ l₁ l₂ q title₁ ns₁ flips₁ small (each-stored ns (w .stored)) d in
       (a, t, n);
 }
 

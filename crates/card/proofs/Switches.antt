@@ -15,11 +15,14 @@ use Rattle.words.specs.Bytes.{laid}
 use Rattle.words.proofs.Bytes.{below-map}
 use Rattle.words.proofs.Lists.{map-getD}
 use Rattle.words.proofs.Dist.{dist-self}
-use Rattle.codes.specs.Verdict.{Verdict, clean, mended, lost, off, verdict, repaired, scrubbed}
-use Rattle.codes.specs.Promises.{Hands}
+use Rattle.codes.specs.Verdict as codes
+use Rattle.codes.specs.Verdict.{off, scrubbed}
+use Rattle.codes.specs.Promises as promises
 use Rattle.refusals.specs.Reply.{gives}
 use Rattle.grid_code.specs.Code.{codeword, gridCode}
+use Rattle.grid_code.specs.Verdict.{Verdict, clean, blank, mended, lost, named, gridVerdict, Hands}
 use Rattle.grid_code.proofs.Promises.{promised}
+use Rattle.grid_code.proofs.Verdict.{named-clean}
 use Rattle.page.specs.Calls.{mostGrids}
 use Rattle.fields.specs.Fields.{titleMost, titleLength, firstBad}
 use Rattle.fields.proofs.Titles.{title-length}
@@ -32,20 +35,21 @@ use Rattle.card_read.specs.declared.ReadAnswer.{ReadAnswer}
 use Rattle.card_read.specs.Answer.{means}
 use Rattle.card_read.specs.Calls.{roomFor, Read}
 use Rattle.card_read.proofs.Readings.{roomy, same, all-read}
-use Rattle.card.specs.Promises.{Switched}
+use Rattle.card.specs.Promises.{Switched, AllStored}
 use Rattle.card.proofs.Again.{grids-long, card-long}
 
 -- ---- grid by grid
 
 handed-data : (v : Verdict) (d n : ℕ) → Hands v d n → dataShown v ≡ d
 handed-data (clean e) d n h = h .0
+handed-data (blank m) d n h = absurd h
 handed-data (mended e m) d n h = h .0
 handed-data lost d n h = absurd h
 
-handed-word : (w : ℕ) (v : Verdict) (d n : ℕ) → Hands v d n → repaired gridCode w v ≡ codeword d
-handed-word w (clean e) d n h = ap codeword (h .0)
-handed-word w (mended e m) d n h = ap codeword (h .0)
-handed-word w lost d n h = absurd h
+handed-word : (w : ℕ) (v : codes.Verdict) (d n : ℕ) → promises.Hands v d n → codes.repaired gridCode w v ≡ codeword d
+handed-word w (codes.clean e) d n h = ap codeword (h .0)
+handed-word w (codes.mended e m) d n h = ap codeword (h .0)
+handed-word w codes.lost d n h = absurd h
 
 -- a list, by its places
 mapped : (f : ℕ → ℕ) (ws ys : List ℕ) → length ws ≡ length ys → ((i : ℕ) → i < length ys → f (getD ws i 0) ≡ getD ys i 0) → map f ws ≡ ys
@@ -53,21 +57,21 @@ mapped f ws ys e h =
     ext-getD 0 (map f ws) ys (length-map ws f ∙ e)
     (λ i l. let m : i < length ws = omega (arith, l, length-map ws f) in map-getD f ws i m ∙ h i (omega (arith, m, e)))
 
-module _ (ns ws : List ℕ) (small : Below 16 ns) (s : Switched ns ws) where
-  handed : (i : ℕ) → i < length ns → Hands (verdict gridCode (getD ws i 0)) (getD ns i 0) (off gridCode (getD ws i 0) (getD ns i 0))
-  handed i l = promised .verdicts .demand3 (getD ws i 0) .given (getD ns i 0) (small i) (s .few i l)
-
+module _ (ns ws : List ℕ) (small : Below 16 ns) (stored : AllStored ns) (s : Switched ns ws) where
   numbers-read : dataOfGrids ws ≡ ns
   numbers-read =
       mapped dataOfGrid ws ns (s .many)
-      (λ i l. handed-data (verdict gridCode (getD ws i 0)) (getD ns i 0) (off gridCode (getD ws i 0) (getD ns i 0)) (handed i l))
+      (λ i l.
+      handed-data (gridVerdict (getD ws i 0)) (getD ns i 0) (off gridCode (getD ws i 0) (getD ns i 0))
+      (promised .demand3 (getD ws i 0) .given (getD ns i 0) (omega (arith, small i, stored i l)) (s .few i l)))
 
   pub put-right : map (scrubbed gridCode) ws ≡ map codeword ns
   put-right =
       mapped (scrubbed gridCode) ws (map codeword ns) (s .many ∙ sym (length-map ns codeword))
       (λ i l.
       let m : i < length ns = omega (arith, l, length-map ns codeword) in
-      handed-word (getD ws i 0) (verdict gridCode (getD ws i 0)) (getD ns i 0) (off gridCode (getD ws i 0) (getD ns i 0)) (handed i m)
+      handed-word (getD ws i 0) (codes.verdict gridCode (getD ws i 0)) (getD ns i 0) (off gridCode (getD ws i 0) (getD ns i 0))
+      (promised .verdicts .demand3 (getD ws i 0) .given (getD ns i 0) (small i) (s .few i m))
       ∙ sym (map-getD codeword ns i m))
 
 -- .. none switched
@@ -82,14 +86,14 @@ module _ (ns : List ℕ) (small : Below 16 ns) where
         omega (arith, e);
   }
 
-  pub no-flips : flipsOfGrids (map codeword ns) ≡ replicate (length ns) 0
-  no-flips =
+  pub no-flips : AllStored ns → flipsOfGrids (map codeword ns) ≡ replicate (length ns) 0
+  no-flips stored =
       mapped flipsOfGrid (map codeword ns) (replicate (length ns) 0)
       (length-map ns codeword ∙ sym (length-replicate (length ns) 0))
       (λ i l.
       let m : i < length ns = omega (arith, l, length-replicate {A = ℕ} (length ns) 0) in
       ap flipsOfGrid (map-getD codeword ns i m)
-      ∙ ap flipsShown (promised .verdicts .unharmed (getD ns i 0) (small i))
+      ∙ ap flipsShown (ap named (promised .verdicts .unharmed (getD ns i 0) (small i)) ∙ named-clean (getD ns i 0) (stored i m))
       ∙ sym (getD-replicate (length ns) i 0 0 m))
 
 -- ---- the card
@@ -129,14 +133,14 @@ module _ (title ns : List ℕ) (allowed : lengthsAllowed title ns ≡ true) wher
       room : roomFor (cardOn title ws) title₀ ns₀ flips₀ ≡ true
       room = roomy title₀ ns₀ flips₀ (cardOn title ws) l (omega (arith, m, many)) (omega (arith, k, many))
 
-      pub read-on : (r : ReadAnswer) (title₁ ns₁ flips₁ : List ℕ) → Below 16 ns
+      pub read-on : (r : ReadAnswer) (title₁ ns₁ flips₁ : List ℕ) → Below 16 ns → AllStored ns
           → Read (imageOf (cardOn title ws)) title₀ ns₀ flips₀ r title₁ ns₁ flips₁
           → (means r ≡ gives (record { title = length title; grids = length ns })) × (title₁ ≡ laid title title₀) × (ns₁ ≡ laid ns ns₀)
           × (flips₁ ≡ laid (flipsOfGrids ws) flips₀)
-      read-on r title₁ ns₁ flips₁ small d =
+      read-on r title₁ ns₁ flips₁ small stored d =
           let (a, t, n, f) = same d (all-read (imageOf (cardOn title ws)) title₀ ns₀ flips₀ (cardOn title ws) few found-on room) in (
             ap means a ∙ ap (λ (n : ℕ). gives (record { title = length title; grids = n })) many,
             t,
-            n ∙ ap (λ l. laid l ns₀) (ap dataOfGrids (append-nil ws) ∙ numbers-read ns ws small s),
+            n ∙ ap (λ l. laid l ns₀) (ap dataOfGrids (append-nil ws) ∙ numbers-read ns ws small stored s),
             f ∙ ap (λ l. laid (flipsOfGrids l) flips₀) (append-nil ws),
           )

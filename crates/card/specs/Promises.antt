@@ -11,9 +11,10 @@ use Rattle.words.specs.Digits.{Below}
 use Rattle.words.specs.Bytes.{laid}
 use Rattle.refusals.specs.Reply.{gives, refuses, refusesAt}
 use Rattle.codes.specs.Verdict.{patternOf}
-use Rattle.codes.specs.Tally.{LastMended, AddsUp, Again}
+use Rattle.codes.specs.Tally as codes
 use Rattle.grid_code.specs.Code.{codeword, gridCode}
-use Rattle.page.specs.Answer.{tallyIn as gridsTally}
+use Rattle.grid_code.specs.Verdict.{blank, erased, gridVerdict, isBlank}
+use Rattle.page.specs.Tally.{LastMended, AddsUp, Again}
 use Rattle.fields.specs.Fields.{headBytes, firstBad}
 use Rattle.image.specs.declared.CheckAnswer.{CheckAnswer}
 use Rattle.image.specs.Card.{Card, sound, broken, mostBytes, gridsIn, blocksIn, cardOf, imageOf}
@@ -27,7 +28,7 @@ use Rattle.card_scrub.specs.Calls.{scrubbedCard, talliesOf, Scrubbed}
 use Rattle.card_write.specs.declared.WriteAnswer.{WriteAnswer}
 use Rattle.card_write.specs.Answer.{means as writeMeans}
 use Rattle.card_write.specs.Calls.{cardOn, cardWith, sizeWritten, lengthsAllowed, Wrote}
-use Rattle.value_read.specs.Shown.{dataOfGrids, flipsOfGrids}
+use Rattle.value_read.specs.Shown.{dataOfGrid, flipsOfGrid, dataOfGrids, flipsOfGrids}
 use Rattle.card_read.specs.declared.ReadAnswer.{ReadAnswer}
 use Rattle.card_read.specs.Answer.{Lengths, means as readMeans}
 use Rattle.card_read.specs.Calls.{roomFor, Read}
@@ -49,23 +50,23 @@ pub record ScrubPromises : Type 0 where
   -- A sound image is scrubbed, whatever its grids and blocks are: none of them is a refusal of the call.
   pub done : (s exit : List ℕ) (c : Card) (r : ScrubAnswer) → length s ≤ mostBytes → cardOf s ≡ sound c → Scrubbed s r exit
       → (scrubMeans r ≡ gives (talliesOf (c .parts))) × (exit ≡ imageOf (scrubbedCard c))
-  -- Each number is the sum of clean, mended and lost.
+  -- Each number is the sum of its kinds: clean, blank, mended and lost grids, and clean, mended and lost blocks.
   pub sums : (s exit : List ℕ) (r : ScrubAnswer) (t : Tallies) → Scrubbed s r exit → scrubMeans r ≡ gives t
-      → AddsUp (gridsTally (t .grids)) × AddsUp (blocksTally (t .blocks))
+      → AddsUp (t .grids) × codes.AddsUp (blocksTally (t .blocks))
   -- The pattern is that of the last mended grid, over all grids fields in order, and zero where none is mended.
   pub last : (s exit : List ℕ) (c : Card) (r : ScrubAnswer) (t : Tallies) (i : ℕ) → cardOf s ≡ sound c → Scrubbed s r exit
-      → scrubMeans r ≡ gives t → LastMended gridCode (gridsIn (c .parts)) i
+      → scrubMeans r ≡ gives t → LastMended (gridsIn (c .parts)) i
       → t .grids .pattern ≡ patternOf gridCode (getD (gridsIn (c .parts)) i 0)
   pub no-last : (s exit : List ℕ) (r : ScrubAnswer) (t : Tallies) → Scrubbed s r exit → scrubMeans r ≡ gives t → t .grids .mended ≡ 0
       → t .grids .pattern ≡ 0
   -- The image stays sound and as long as it was, and holds the scrubbed card: the same title, and as many grids and blocks.
   pub stays : (s exit : List ℕ) (r : ScrubAnswer) (t : Tallies) → Below 8 s → Scrubbed s r exit → scrubMeans r ≡ gives t
       → (c : Card) × (cardOf s ≡ sound c) × (cardOf exit ≡ sound (scrubbedCard c)) × SameFrame c (scrubbedCard c) × (length exit ≡ length s)
-  -- A second scrub changes nothing, finds 0 mended, and passes on no pattern.
+  -- A second scrub changes nothing, finds the same blank and lost, 0 mended, and passes on no pattern.
   pub again : (s once twice : List ℕ) (r q : ScrubAnswer) (t : Tallies) → Below 8 s → Scrubbed s r once → scrubMeans r ≡ gives t
       → Scrubbed once q twice
-      → (u : Tallies) × (scrubMeans q ≡ gives u) × Again (gridsTally (t .grids)) (gridsTally (u .grids))
-      × Again (blocksTally (t .blocks)) (blocksTally (u .blocks)) × (u .grids .pattern ≡ 0) × (twice ≡ once)
+      → (u : Tallies) × (scrubMeans q ≡ gives u) × Again (t .grids) (u .grids)
+      × codes.Again (blocksTally (t .blocks)) (blocksTally (u .blocks)) × (twice ≡ once)
 
 -- ws are the grids of the numbers ns, each with at most seven lamps switched
 pub record Switched (ns ws : List ℕ) : Type 0 where
@@ -73,17 +74,24 @@ pub record Switched (ns ws : List ℕ) : Type 0 where
   pub words : Below 64 ws
   pub few : (i : ℕ) → i < length ns → dist (getD ws i 0) (codeword (getD ns i 0)) ≤ gridCode .radius
 
+-- none of the numbers is 65,535, which is not stored
+abbrev pub AllStored : List ℕ → Type 0
+AllStored ns = (i : ℕ) → i < length ns → getD ns i 0 ≢ erased
+
 -- What the writer promises.
 pub record WritePromises : Type 0 where
-  -- A title of no bytes or of over 24, or over 512 numbers: 3; else a bad title byte: 4 with its place; else too little room: 6; else it is done.
+  -- A title of no bytes or of over 24, or over 512 numbers: 3; else a bad title byte: 4 with its place; else 65,535 among the numbers,
+  -- wherever: 7; else too little room: 6; else it is done.
   pub lengths : (title ns image exit : List ℕ) (r : WriteAnswer) → Wrote title ns image r exit → lengthsAllowed title ns ≡ false
       → writeMeans r ≡ refuses 3
   pub bad-byte : (title ns image exit : List ℕ) (r : WriteAnswer) → Wrote title ns image r exit → lengthsAllowed title ns ≡ true
       → firstBad title ≢ length title → writeMeans r ≡ refusesAt 4 (firstBad title)
+  pub erased-number : (title ns image exit : List ℕ) (r : WriteAnswer) (i : ℕ) → Wrote title ns image r exit → lengthsAllowed title ns ≡ true
+      → firstBad title ≡ length title → i < length ns → getD ns i 0 ≡ erased → writeMeans r ≡ refuses 7
   pub short : (title ns image exit : List ℕ) (r : WriteAnswer) → Wrote title ns image r exit → lengthsAllowed title ns ≡ true
-      → firstBad title ≡ length title → length image < sizeWritten title ns → writeMeans r ≡ refuses 6
+      → firstBad title ≡ length title → AllStored ns → length image < sizeWritten title ns → writeMeans r ≡ refuses 6
   pub accepted : (title ns image exit : List ℕ) (r : WriteAnswer) → Wrote title ns image r exit → lengthsAllowed title ns ≡ true
-      → firstBad title ≡ length title → sizeWritten title ns ≤ length image → writeMeans r ≡ gives (sizeWritten title ns)
+      → firstBad title ≡ length title → AllStored ns → sizeWritten title ns ≤ length image → writeMeans r ≡ gives (sizeWritten title ns)
   -- A call that gives nothing writes nothing.
   pub refused : (title ns image exit : List ℕ) (r : WriteAnswer) → Wrote title ns image r exit → ((k : ℕ) → writeMeans r ≢ gives k)
       → exit ≡ image
@@ -129,6 +137,10 @@ pub record ReadPromises : Type 0 where
   -- A call that gives nothing writes nothing.
   pub refused : (image title ns flips title′ ns′ flips′ : List ℕ) (r : ReadAnswer) → Read image title ns flips r title′ ns′ flips′
       → ((v : Lengths) → readMeans r ≢ gives v) → (title′ ≡ title) × (ns′ ≡ ns) × (flips′ ≡ flips)
+
+  -- A blank grid is shown as 65,535, with 128 more than its flips, and no other grid is.
+  pub blank-shown : (w n : ℕ) → gridVerdict w ≡ blank n → (dataOfGrid w ≡ erased) × (flipsOfGrid w ≡ n + 128)
+  pub blank-only : (w : ℕ) → dataOfGrid w ≡ erased → isBlank (gridVerdict w) ≡ 1
 
 -- No second outcome satisfies the statement of a call.
 pub record OneOutcome : Type 0 where

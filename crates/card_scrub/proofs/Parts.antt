@@ -10,15 +10,17 @@ use Rattle.words.specs.Digits.{digits, joined, Below}
 use Rattle.words.specs.Bytes.{wordsIn, bytesOf}
 use Rattle.words.proofs.Bytes.{length-words}
 use Rattle.codes.specs.Verdict.{scrubbed}
-use Rattle.codes.specs.Tally.{sumBy, lastFrom, Tally as Counted, tallyOf}
-use Rattle.codes.specs.Steps.{plus, later}
-use Rattle.codes.proofs.Last.{last-two, later-again}
-use Rattle.codes.proofs.Tally.{tally-append, small-sum}
+use Rattle.codes.specs.Tally.{sumBy, Tally as Counted, tallyOf}
+use Rattle.codes.specs.Steps as codes
+use Rattle.codes.proofs.Tally as codes-tally
+use Rattle.codes.proofs.Tally.{tally-append}
 use Rattle.grid_code.specs.Code.{gridCode}
-use Rattle.grid_code.proofs.Promises as grid
 use Rattle.page.specs.declared.Tally.{Tally}
-use Rattle.page.specs.Answer.{tallyIn as gridsTally}
-use Rattle.page.specs.Calls.{ofGrids, gridTally, NoGrids}
+use Rattle.page.specs.Tally.{lastFrom, gridTally}
+use Rattle.page.specs.Calls.{NoGrids}
+use Rattle.page.specs.Steps.{later, plus}
+use Rattle.page.proofs.Last.{later-again}
+use Rattle.page.proofs.Counts.{tally-two, small-sum}
 use Rattle.block_code.specs.Code.{blockCode}
 use Rattle.block_code.proofs.Promises.{promised}
 use Rattle.fields.specs.declared.Field.the-variants.{Grids, Block}
@@ -33,7 +35,7 @@ use Rattle.values.specs.Steps.{gridsOf}
 use Rattle.value_scrub.specs.declared.Blocks.{Blocks}
 use Rattle.value_scrub.specs.Tally.{ofBlocks, tallyIn as blocksTally, blockTally}
 use Rattle.value_scrub.specs.Steps.{wrapped, added, NoBlocks, ScrubbedGrids, ScrubbedBlock}
-use Rattle.value_scrub.proofs.Scrubs.{whole-sum}
+use Rattle.value_scrub.proofs.Scrubs.{whole-sum, whole-grids}
 use Rattle.card_scrub.specs.declared.Tallies.{Tallies}
 use Rattle.card_scrub.specs.Calls.{scrubbedPart, scrubbedCard, talliesOf}
 use Rattle.card_scrub.specs.Steps.{summed, ScrubbedFields, Passed}
@@ -79,13 +81,14 @@ Few (block w) = Unit {0}
 sum-of-grids : (ws vs : List ℕ) → length ws ≤ 4096 → length vs ≤ 4096
     → added (gridTally ws) (gridTally vs) ≡ gridTally (ws ++ vs)
 sum-of-grids ws vs p q =
-    ap₂ ofGrids (whole-sum _ (small-sum gridCode (grid.promised .verdicts) 4096 ws vs p q (lit< tt) (lit< tt)) ∙ sym (tally-append gridCode ws vs))
-    (sym (last-two gridCode (grid.promised .verdicts) ws vs))
+    whole-grids (plus (gridTally ws) (gridTally vs)) (small-sum 4096 ws vs p q (lit< tt)) ∙ sym (tally-two ws vs)
 
 sum-of-blocks : (ws vs : List ℕ) → length ws ≤ 32768 → length vs ≤ 32768
-    → wrapped (plus (tallyOf blockCode ws) (tallyOf blockCode vs)) ≡ tallyOf blockCode (ws ++ vs)
+    → wrapped (codes.plus (tallyOf blockCode ws) (tallyOf blockCode vs)) ≡ tallyOf blockCode (ws ++ vs)
 sum-of-blocks ws vs p q =
-    whole-sum _ (small-sum blockCode (promised .verdicts) 32768 ws vs p q (lit< tt) (lit< tt)) ∙ sym (tally-append blockCode ws vs)
+    whole-sum (codes.plus (tallyOf blockCode ws) (tallyOf blockCode vs))
+    (codes-tally.small-sum blockCode (promised .verdicts) 32768 ws vs p q (lit< tt) (lit< tt))
+    ∙ sym (tally-append blockCode ws vs)
 
 one-more : (p : Part) (ps : List Part) → Few p → length (gridsIn ps) ≤ 4096 → length (blocksIn ps) ≤ 32768
     → summed (countedIn p) (talliesOf ps) ≡ talliesOf (p ∷ ps)
@@ -201,7 +204,7 @@ module _ (s v : List ℕ) (r : Blocks) (none : Tally) (w : Walks s) (b : Below 8
 again : (a b c : ℕ) → (a + (b + c) % 2 ^ 32) % 2 ^ 32 ≡ ((a + b) % 2 ^ 32 + c) % 2 ^ 32
 again a b c = omega arith
 
-wrapped-again : (a b c : Counted) → wrapped (plus a (wrapped (plus b c))) ≡ wrapped (plus (wrapped (plus a b)) c)
+wrapped-again : (a b c : Counted) → wrapped (codes.plus a (wrapped (codes.plus b c))) ≡ wrapped (codes.plus (wrapped (codes.plus a b)) c)
 wrapped-again a b c = λ i. record {
   words = again (a .words) (b .words) (c .words) i;
   clean = again (a .clean) (b .clean) (c .clean) i;
@@ -210,18 +213,27 @@ wrapped-again a b c = λ i. record {
   flips = again (a .flips) (b .flips) (c .flips) i;
 }
 
+added-again : (a b c : Tally) → added a (added b c) ≡ added (added a b) c
+added-again a b c = λ i. record {
+  grids = again (a .grids) (b .grids) (c .grids) i;
+  clean = again (a .clean) (b .clean) (c .clean) i;
+  blank = again (a .blank) (b .blank) (c .blank) i;
+  mended = again (a .mended) (b .mended) (c .mended) i;
+  lost = again (a .lost) (b .lost) (c .lost) i;
+  flips = again (a .flips) (b .flips) (c .flips) i;
+  pattern = later-again (a .pattern) (b .pattern) (c .pattern) i;
+}
+
 pub summed-again : (a b c : Tallies) → summed a (summed b c) ≡ summed (summed a b) c
 summed-again a b c = λ i. record {
-  grids =
-      ofGrids (wrapped-again (gridsTally (a .grids)) (gridsTally (b .grids)) (gridsTally (c .grids)) i)
-      (later-again (a .grids .pattern) (b .grids .pattern) (c .grids .pattern) i);
+  grids = added-again (a .grids) (b .grids) (c .grids) i;
   blocks = ofBlocks (wrapped-again (blocksTally (a .blocks)) (blocksTally (b .blocks)) (blocksTally (c .blocks)) i);
 }
 
 nothing-more : (a b : ℕ) → ((a + b) % 2 ^ 32 + 0) % 2 ^ 32 ≡ (a + b) % 2 ^ 32
 nothing-more a b = omega arith
 
-wrapped-once : (a b : Counted) → wrapped (plus (wrapped (plus a b)) (tallyOf gridCode [])) ≡ wrapped (plus a b)
+wrapped-once : (a b : Counted) → wrapped (codes.plus (wrapped (codes.plus a b)) (tallyOf blockCode [])) ≡ wrapped (codes.plus a b)
 unfolding sumBy
 wrapped-once a b = λ i. record {
   words = nothing-more (a .words) (b .words) i;
@@ -231,11 +243,22 @@ wrapped-once a b = λ i. record {
   flips = nothing-more (a .flips) (b .flips) i;
 }
 
+added-once : (a b : Tally) → added (added a b) (gridTally []) ≡ added a b
+unfolding sumBy lastFrom
+added-once a b = λ i. record {
+  grids = nothing-more (a .grids) (b .grids) i;
+  clean = nothing-more (a .clean) (b .clean) i;
+  blank = nothing-more (a .blank) (b .blank) i;
+  mended = nothing-more (a .mended) (b .mended) i;
+  lost = nothing-more (a .lost) (b .lost) i;
+  flips = nothing-more (a .flips) (b .flips) i;
+  pattern = later (a .pattern) (b .pattern);
+}
+
 -- nothing is added by no fields
 pub summed-none : (a b : Tallies) → summed (summed a b) (talliesOf []) ≡ summed a b
-unfolding sumBy lastFrom
 summed-none a b = λ i. record {
-  grids = ofGrids (wrapped-once (gridsTally (a .grids)) (gridsTally (b .grids)) i) (later (a .grids .pattern) (b .grids .pattern));
+  grids = added-once (a .grids) (b .grids) i;
   blocks = ofBlocks (wrapped-once (blocksTally (a .blocks)) (blocksTally (b .blocks)) i);
 }
 

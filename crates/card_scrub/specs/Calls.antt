@@ -5,7 +5,7 @@ use mathlib.Core.List.{List, map}
 use Prim.Native.Nat.{ℕ}
 use Rattle.codes.specs.Verdict.{scrubbed}
 use Rattle.grid_code.specs.Code.{gridCode}
-use Rattle.page.specs.Calls.{gridTally}
+use Rattle.page.specs.Tally.{gridTally}
 use Rattle.block_code.specs.Code.{blockCode}
 use Rattle.image.specs.Card.{Part, grids, block, Card, gridsIn, blocksIn, imageOf}
 use Rattle.image.specs.Calls.{checkedAs}

@@ -10,7 +10,8 @@ ghost use Rattle.grid_code.specs.Code.{codeword};
 ghost use Rattle.page.specs.Calls.{mostGrids};
 ghost use Rattle.fields.specs.Fields.{headBytes};
 ghost use Rattle.image.specs.Card.{grids, head, partBytes, imageOf};
-ghost use Rattle.card_write.specs.Calls.{cardWith, Wrote};
+ghost use Rattle.card_write.specs.declared.WriteAnswer.the-variants.{Done, Refused};
+ghost use Rattle.card_write.specs.Calls.{cardWith, sizeWritten, noneErased, writtenAs, Wrote};
 ghost use Rattle.card_write.specs.Steps.{Fits};
 use fields::HEAD;
 use grid::Grid;
@@ -40,7 +41,7 @@ fn grids(bytes: &mut [u8], numbers: &[u16])
     let mut i: usize = 0;
     while i < numbers.len() {
         let at = 8 * i;
-        values::put_grid(&mut bytes[at..], Grid::encode(numbers[i]));
+        values::put_grid(&mut bytes[at..], Grid::of_number(grid_code::encoded(numbers[i])));
         i += 1;
     }
 }
@@ -68,9 +69,25 @@ fn lay(title: &[u8], numbers: &[u16], image: &mut [u8])
     lay_grids(numbers, &mut image[end..]);
 }
 
-// The image of a title and of numbers, into a slice: title, one grids field, end.
-pub fn write(title: &[u8], numbers: &[u16], image: &mut [u8]) -> WriteAnswer
-    ensures { λ r. ⌜ Wrote (now (title .entry)) (now (numbers .entry)) (now (image .entry)) r (now (image .exit)) ⌝ }
+// Whether none of the numbers is 65,535, which is not stored: its grid is an erased one. All are looked at, since a loop without a way out
+// is one that the compiler takes eight numbers at a time.
+fn none_erased(numbers: &[u16]) -> bool
+    ensures { λ r. ⌜ r ≡ noneErased (now (numbers .entry)) ⌝ }
+{
+    let mut stored = true;
+    let mut i: usize = 0;
+    while i < numbers.len() {
+        if numbers[i] == grid_code::ERASED {
+            stored = false;
+        }
+        i += 1;
+    }
+    stored
+}
+
+// What the writer answers, where there are `room` bytes: the refusals in their order, or the size of the image.
+fn answer_for(title: &[u8], numbers: &[u16], room: usize) -> WriteAnswer
+    ensures { λ r. ⌜ r ≡ writtenAs (now (title .entry)) (now (numbers .entry)) room Refused (Done (sizeWritten (now (title .entry)) (now (numbers .entry)))) ⌝ }
 {
     if !fields::is_title_length(title.len()) {
         return WriteAnswer::Refused(Refusal::Length);
@@ -82,10 +99,25 @@ pub fn write(title: &[u8], numbers: &[u16], image: &mut [u8]) -> WriteAnswer
     if bad != title.len() {
         return WriteAnswer::Refused(Refusal::Broken(bad));
     }
+    if !none_erased(numbers) {
+        return WriteAnswer::Refused(Refusal::Erased);
+    }
     let size = 3 * HEAD + title.len() + 8 * numbers.len();
-    if image.len() < size {
+    if room < size {
         return WriteAnswer::Refused(Refusal::Room);
     }
-    lay(title, numbers, image);
     WriteAnswer::Done(size)
+}
+
+// The image of a title and of numbers, into a slice: title, one grids field, end.
+pub fn write(title: &[u8], numbers: &[u16], image: &mut [u8]) -> WriteAnswer
+    ensures { λ r. ⌜ Wrote (now (title .entry)) (now (numbers .entry)) (now (image .entry)) r (now (image .exit)) ⌝ }
+{
+    match answer_for(title, numbers, image.len()) {
+        WriteAnswer::Refused(why) => WriteAnswer::Refused(why),
+        WriteAnswer::Done(size) => {
+            lay(title, numbers, image);
+            WriteAnswer::Done(size)
+        }
+    }
 }

@@ -2,16 +2,20 @@
 use mathlib.Core.Path.{_≡_}
 use mathlib.Core.List.{List, [], _∷_}
 use Prim.Native.Nat.{ℕ, _+_, _*_, _^_}
-use Rattle.codes.specs.Verdict.{Verdict, clean, mended, lost, off, IsVerdict, patternOf}
+use Rattle.codes.specs.Verdict as codes
+use Rattle.codes.specs.Verdict.{off, IsVerdict, patternOf}
 use Rattle.grid_code.specs.Equations as grid
 use Rattle.grid_code.specs.Code.{gridCode}
+use Rattle.grid_code.specs.Verdict.{Verdict, clean, blank, mended, lost, IsGridVerdict}
 use Rattle.block_code.specs.Equations as block
 use Rattle.block_code.specs.Code.{blockCode}
 
--- ofGrid d g: the grid of the data d is g, and it is clean. read w v p: the verdict on the grid w is v, and the pattern of the flips is p.
--- distant w d n: the grid w is n places from that of the data d. ofBlock d w: the block of the data d is w, and it is clean.
+-- ofGrid d g: the grid of the data d is g, and it is clean. solves d g: g is the codeword of d. read w v p: the verdict on the grid w is v,
+-- and the pattern of the flips is p. distant w d n: the grid w is n places from the codeword of d. ofBlock d w: the block of the data d is
+-- w, and it is clean.
 pub data Case : Type 0 where
   ofGrid : ℕ → ℕ → Case
+  solves : ℕ → ℕ → Case
   read : ℕ → Verdict → ℕ → Case
   distant : ℕ → ℕ → ℕ → Case
   ofBlock : ℕ → ℕ → Case
@@ -27,7 +31,10 @@ cases =
     ∷ ofGrid 8 0xE800_E8E8_0000_00E8
     ∷ ofGrid 4096 0x00B1_B1B1_B100_0000
     ∷ ofGrid 15 0xFF00_FFFF_0000_00FF
-    ∷ ofGrid 65535 0xFFFF_FFFF_FFFF_FFFF
+    -- all ones is an erased grid
+    ∷ solves 65535 0xFFFF_FFFF_FFFF_FFFF
+    ∷ read 0xFFFF_FFFF_FFFF_FFFF (blank 0) 0
+    ∷ read 0xFFFF_FFFF_FFFF_FFFE (blank 1) 1
     ∷ read 0x0000_00B0_0000_00B1 (mended 0 7) 0x0000_00B0_0000_00B1
     ∷ read 0x0000_00B1_0000_00B1 lost 0
     ∷ distant 0x0000_00B1_0000_00B1 0 8
@@ -43,10 +50,11 @@ cases =
 
 -- what a case says, by the definitions
 abbrev pub Says : Case → Type 0
-Says (ofGrid d g) = grid.Codeword d g × IsVerdict gridCode g (clean d)
-Says (read w v p) = IsVerdict gridCode w v × (patternOf gridCode w ≡ p)
+Says (ofGrid d g) = grid.Codeword d g × IsGridVerdict g (clean d)
+Says (solves d g) = grid.Codeword d g
+Says (read w v p) = IsGridVerdict w v × (patternOf gridCode w ≡ p)
 Says (distant w d n) = off gridCode w d ≡ n
-Says (ofBlock d w) = block.Codeword d w × IsVerdict blockCode w (clean d)
+Says (ofBlock d w) = block.Codeword d w × IsVerdict blockCode w (codes.clean d)
 
 -- the claim: each says what is so
 abbrev pub Hold : List Case → Type 0

@@ -1,6 +1,5 @@
 pub mod Verdict
 pub mod Promises
-pub mod Last
 pub mod Tally
 pub mod Product
 pub mod Trials

@@ -1,8 +1,6 @@
--- What the steps of a scrub ask of tallies and of patterns, so that their contracts can say it. No promise to a caller cites this file.
+-- What the steps of a scrub ask of tallies, so that their contracts can say it. No promise to a caller cites this file.
 -- Assumes nothing.
-use Prim.Native.Nat.{ℕ, _+_, _^_, _<_}
-use lib.Dec.{eqb}
-use Rattle.words.specs.Word.{choose}
+use Prim.Native.Nat.{_+_, _^_, _<_}
 use Rattle.codes.specs.Tally.{Tally}
 
 -- of two parts
@@ -22,7 +20,3 @@ pub record Small (t : Tally) : Type 0 where
   pub mended : t .mended < 2 ^ 32
   pub lost : t .lost < 2 ^ 32
   pub flips : t .flips < 2 ^ 32
-
--- which of two parts' patterns is passed on: b, of the part behind, unless nothing was mended there. A mended word's is never zero.
-abbrev pub later : ℕ → ℕ → ℕ
-later a b = choose (eqb b 0) a b

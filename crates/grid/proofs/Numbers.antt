@@ -4,17 +4,18 @@ use mathlib.Core.List.{List}
 use Prim.Native.Nat.{ℕ, _^_, _<_}
 use Rattle.words.specs.Digits.{digits, joined}
 use Rattle.words.proofs.Digits.{joined-digits}
-use Rattle.codes.specs.Verdict.{verdict, scrubbed, patternOf}
+use Rattle.codes.specs.Verdict.{scrubbed, patternOf}
 use Rattle.codes.proofs.Tally.{scrubbed-lt}
 use Rattle.grid_code.specs.Code.{gridCode}
+use Rattle.grid_code.specs.Verdict.{gridVerdict}
 use Rattle.grid_code.proofs.Distance.{codeword-lt}
 use Rattle.grid_code.proofs.Promises.{promised}
 use Rattle.grid.specs.Answer.{verdictOf}
 use Rattle.grid.specs.Calls.{Decoded}
 use Rattle.grid.specs.declared.Answer.{Answer}
 
-pub decoded-verdict : (w : ℕ) (rows : List ℕ) (a : Answer) → w < 2 ^ 64 → rows ≡ digits 8 8 w → Decoded rows a → verdictOf (a .verdict) ≡ verdict gridCode w
-decoded-verdict w rows a l e d = d .answer ∙ ap (verdict gridCode) (ap (joined 8) e ∙ joined-digits 8 8 w l)
+pub decoded-verdict : (w : ℕ) (rows : List ℕ) (a : Answer) → w < 2 ^ 64 → rows ≡ digits 8 8 w → Decoded rows a → verdictOf (a .verdict) ≡ gridVerdict w
+decoded-verdict w rows a l e d = d .answer ∙ ap gridVerdict (ap (joined 8) e ∙ joined-digits 8 8 w l)
 
 pub decoded-pattern : (w : ℕ) (rows : List ℕ) (a : Answer) → w < 2 ^ 64 → rows ≡ digits 8 8 w → Decoded rows a → a .pattern ≡ patternOf gridCode w
 decoded-pattern w rows a l e d = d .pattern ∙ ap (patternOf gridCode) (ap (joined 8) e ∙ joined-digits 8 8 w l)

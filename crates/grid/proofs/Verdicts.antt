@@ -1,4 +1,4 @@
--- The ways in which the decoder answers, over plain values: clean, by a codeword that was found, lost. Assumes nothing.
+-- The ways in which the decoder answers, over plain values: a codeword was read, one was found, none was. Assumes nothing.
 use mathlib.Core.Path.{_≡_, refl, sym, ap, ap₂, _∙_}
 use mathlib.Core.Logic.{_≢_}
 use mathlib.Core.Bool.{true}
@@ -6,7 +6,7 @@ use mathlib.Core.List.{List}
 use Prim.Native.Nat.{ℕ, zero, suc, _^_, _<_}
 use native.Mathlib.Omega.{arith}
 use lib.Bits.{bitXor, xor-self}
-use lib.Dec.{eqb}
+use lib.Dec.{eqb, lit<}
 use lib.ListN.{length}
 use borrow.Author.Tests.{eq-eqb, ne-eqb, eqb-true}
 use Rattle.words.specs.Digits.{digits, joined, Below}
@@ -16,6 +16,7 @@ use Rattle.codes.proofs.Promises.{has-verdict, clean-word, answered-repaired}
 use Rattle.codes.proofs.Tally.{clean-of}
 use Rattle.grid_code.specs.Equations.{dataOf}
 use Rattle.grid_code.specs.Code.{codeword, gridCode}
+use Rattle.grid_code.specs.Verdict.{erased, allOnes, named}
 use Rattle.grid_code.specs.Steps.{Completed, Masked, Gathered}
 use Rattle.grid_code.proofs.Places.{data-masked, completes, data-back, data-lt}
 use Rattle.grid_code.proofs.Promises.{promised}
@@ -32,24 +33,32 @@ some-flips d zero h = absurd (h refl)
 some-flips d (suc n) h = refl
 
 -- the data that is taken from the grid of d
-taken-data : (w places e d : ℕ) → Masked w places → Gathered places e → d < 2 ^ 16 → w ≡ codeword d → e ≡ d
+pub taken-data : (w places e d : ℕ) → Masked w places → Gathered places e → d < 2 ^ 16 → w ≡ codeword d → e ≡ d
 taken-data w places e d p q l s = q .answer ∙ ap dataOf (p .answer) ∙ data-masked w ∙ ap dataOf s ∙ data-back d l
+
+-- all ones is the grid of the erased value, ..
+pub all-ones-is : (d : ℕ) → d < 2 ^ 16 → codeword d ≡ allOnes → d ≡ erased
+all-ones-is d l e = sym (data-back d l) ∙ ap dataOf (e ∙ sym (promised .all-ones)) ∙ data-back erased (lit< tt)
+
+-- .. and any other is that of a number
+pub other-is : (d w : ℕ) → w ≡ codeword d → w ≢ allOnes → d ≢ erased
+other-is d w s ne e = ne (s ∙ ap codeword e ∙ promised .all-ones)
 
 pub judged-clean : (rows : List ℕ) → Judged rows true → (d : ℕ) × (verdict gridCode (joined 8 rows) ≡ clean d)
 judged-clean rows j =
     clean-of (verdict gridCode (joined 8 rows)) (eqb-true (isClean (verdict gridCode (joined 8 rows))) 1 (sym (j .answer)))
 
--- the statement, from a verdict
-decoded : (rows out : List ℕ) (p : ℕ) (v : enum.Verdict) (u : Verdict) → verdict gridCode (joined 8 rows) ≡ u → verdictOf v ≡ u
+-- the statement, from a verdict of the code
+decoded : (rows out : List ℕ) (p : ℕ) (v : enum.Verdict) (u : Verdict) → verdict gridCode (joined 8 rows) ≡ u → verdictOf v ≡ named u
     → out ≡ digits 8 8 (repaired gridCode (joined 8 rows) u) → p ≡ bitXor (joined 8 rows) (repaired gridCode (joined 8 rows) u)
     → Decoded rows (record { verdict = v; grid = record { rows = out }; pattern = p })
 decoded rows out p v u e a o q = record {
-  answer = a ∙ sym e;
+  answer = a ∙ sym (ap named e);
   repaired = o ∙ sym (ap (λ u. digits 8 8 (repaired gridCode (joined 8 rows) u)) e);
   pattern = q ∙ sym (ap (λ u. bitXor (joined 8 rows) (repaired gridCode (joined 8 rows) u)) e);
 }
 
--- ---- clean
+-- ---- a codeword was read
 
 module _ (rows : List ℕ) (word : ℕ) (is : word ≡ joined 8 rows) where
   pub is-judged : (places number : ℕ) → Masked word places → Completed places number → Judged rows (eqb number word)
@@ -71,9 +80,9 @@ module _ (rows : List ℕ) (word : ℕ) (is : word ≡ joined 8 rows) where
       go (mended d n) e = ne-eqb number word (none e refl)
       go lost e = ne-eqb number word (none e refl)
 
-  -- a clean grid is its own codeword
-  pub is-clean : Judged rows true → Nearby rows (Within word 0)
-  is-clean j =
+  -- a codeword is its own nearest
+  pub is-codeword : Judged rows true → Nearby rows (Within word 0)
+  is-codeword j =
       let (d, p) = judged-clean rows j in
       let (l, s) = clean-word gridCode (promised .verdicts) (joined 8 rows) d p in
       record { answer = ap (λ (w : ℕ). Within w 0) (is ∙ s) ∙ sym (ap nearOf p) }
@@ -98,19 +107,17 @@ beyond-is (mended d n) e = let z : _≡_ {A = ℕ} 0 1 = cc in absurd (omega ari
 beyond-is lost e = refl
 
 module _ (rows : List ℕ) where
-  -- whether clean or mended, what is written is the codeword
-  module _ (number flips : ℕ) (places e word p : ℕ) (out : List ℕ) (taken : Masked number places) (read : Gathered places e)
-      (o : out ≡ digits 8 8 number) (w : word ≡ joined 8 rows) (q : p ≡ bitXor word number) (by : Nearby rows (Within number flips)) where
-    pub answers : (v : enum.Verdict) → verdictOf v ≡ answered e flips
+  -- whatever it is called, what is written is the codeword
+  module _ (number flips word p : ℕ) (out : List ℕ) (o : out ≡ digits 8 8 number) (w : word ≡ joined 8 rows) (q : p ≡ bitXor word number)
+      (by : Nearby rows (Within number flips)) where
+    pub answers : (v : enum.Verdict) → ((d : ℕ) → d < 2 ^ 16 → number ≡ codeword d → verdictOf v ≡ named (answered d flips))
         → Decoded rows (record { verdict = v; grid = record { rows = out }; pattern = p })
     answers v a =
         let (d, l, s, u) =
         within-is (joined 8 rows) number flips (verdict gridCode (joined 8 rows))
         (has-verdict gridCode (promised .verdicts) (joined 8 rows) refl) (by .answer) in
-        let f : e ≡ d = taken-data number places e d taken read l s in
-        let c : number ≡ repaired gridCode (joined 8 rows) (answered e flips) =
-        s ∙ sym (ap codeword f) ∙ sym (answered-repaired gridCode (joined 8 rows) e flips) in
-        decoded rows out p v (answered e flips) (u ∙ sym (ap (λ (x : ℕ). answered x flips) f)) a (o ∙ ap (digits 8 8) c) (q ∙ ap₂ bitXor w c)
+        let c : number ≡ repaired gridCode (joined 8 rows) (answered d flips) = s ∙ sym (answered-repaired gridCode (joined 8 rows) d flips) in
+        decoded rows out p v (answered d flips) u (a d l s) (o ∙ ap (digits 8 8) c) (q ∙ ap₂ bitXor w c)
 
   pub is-lost : (found : Near) → Nearby rows found → found ≡ Beyond → length rows ≡ 8 → Below 8 rows
       → Decoded rows (record { verdict = Lost; grid = record { rows = rows }; pattern = 0 })

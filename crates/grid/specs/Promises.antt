@@ -1,5 +1,5 @@
--- What is proved of the grid's calls, whatever was read (`decode-promised`, `clean-promised`, `one-outcome`). What is proved of the code
--- stands in the crate grid_code. Assumes nothing.
+-- What is proved of the grid's calls, whatever was given or read (`encode-promised`, `decode-promised`, `codeword-promised`, `one-outcome`).
+-- What is proved of the code stands in the crate grid_code. Assumes nothing.
 use mathlib.Core.Path.{_≡_}
 use mathlib.Core.Logic.{_≢_, _⊎_}
 use mathlib.Core.Bool.{Bool, true}
@@ -11,21 +11,30 @@ use lib.ListN.{length}
 use Rattle.words.specs.Word.{dist}
 use Rattle.words.specs.Digits.{digits, joined, Below}
 use Rattle.refusals.specs.Reply.{gives, refuses}
-use Rattle.codes.specs.Verdict.{Verdict, clean, IsVerdict, Tie, answered, flipsOf}
-use Rattle.codes.specs.Promises.{Demand3}
+use Rattle.codes.specs.Verdict.{Tie}
+use Rattle.grid_code.specs.Equations.{Codeword}
 use Rattle.grid_code.specs.Code.{codeword, gridCode}
-use Rattle.grid.specs.Answer.{verdictOf, means}
+use Rattle.grid_code.specs.Verdict.{Verdict, clean, blank, erased, allOnes, IsGridVerdict, answered, flipsOf, GridDemand3}
+use Rattle.grid.specs.Answer.{verdictOf, means, encodeMeans}
 use Rattle.grid.specs.Calls.{Encoded, Numbered, Parted, Judged, Decoded}
 use Rattle.grid.specs.declared.Answer.{Answer}
+use Rattle.grid.specs.declared.Encoding.{Encoding}
+
+-- What the encoder promises. Demand 2: 0 to 65,534 are encoded by the equations, and 65,535 is refused with 7.
+pub record EncodePromises : Type 0 where
+  pub accepted : (d : ℕ) (r : Encoding) → d < erased → Encoded d r → encodeMeans (r .answer) (r .grid .rows) ≡ gives (digits 8 8 (codeword d))
+  pub refused : (r : Encoding) → Encoded erased r → encodeMeans (r .answer) (r .grid .rows) ≡ refuses 7
+  pub meets : (d : ℕ) (r : Encoding) (rows : List ℕ) → Encoded d r → encodeMeans (r .answer) (r .grid .rows) ≡ gives rows
+      → Codeword d (joined 8 rows)
 
 -- What the answer of a decoder promises, whatever was read.
 pub record DecodePromises : Type 0 where
   -- The verdict is one by the definition, and there is no other.
-  pub is-verdict : (rows : List ℕ) (r : Answer) → Decoded rows r → IsVerdict gridCode (joined 8 rows) (verdictOf (r .verdict))
-  pub only : (rows : List ℕ) (r : Answer) (v : Verdict) → Decoded rows r → IsVerdict gridCode (joined 8 rows) v → v ≡ verdictOf (r .verdict)
-  -- Demand 3: data is handed out exactly where some codeword is within 7 places; it is that codeword's, every other is further off, and the
-  -- flips are the places that differ.
-  pub demand3 : (rows : List ℕ) (r : Answer) → Decoded rows r → Demand3 gridCode (joined 8 rows) (verdictOf (r .verdict))
+  pub is-verdict : (rows : List ℕ) (r : Answer) → Decoded rows r → IsGridVerdict (joined 8 rows) (verdictOf (r .verdict))
+  pub only : (rows : List ℕ) (r : Answer) (v : Verdict) → Decoded rows r → IsGridVerdict (joined 8 rows) v → v ≡ verdictOf (r .verdict)
+  -- Demand 3: data is handed out exactly where the codeword of a number is within 7 places, and it is that number; the grid is blank exactly
+  -- where all ones are. Every other codeword is further off, and the flips are the places that differ.
+  pub demand3 : (rows : List ℕ) (r : Answer) → Decoded rows r → GridDemand3 (joined 8 rows) (verdictOf (r .verdict))
   -- No grid has two nearest codewords within 7 places, so there is no tie among the answers: ..
   pub no-tie : (rows : List ℕ) → Tie gridCode (joined 8 rows) → ⊥
   -- .. the verdict is given, or the grid is lost and refused with 1.
@@ -44,25 +53,31 @@ pub record DecodePromises : Type 0 where
   -- On refusal the repaired grid is the grid as read.
   pub as-read : (rows : List ℕ) (r : Answer) → length rows ≡ 8 → Below 8 rows → Decoded rows r
       → ((v : Verdict) → means (r .verdict) ≢ gives v) → r .grid .rows ≡ rows
+  -- A blank grid is put right to all ones.
+  pub blank-all-ones : (rows : List ℕ) (n : ℕ) (r : Answer) → Decoded rows r → means (r .verdict) ≡ gives (blank n)
+      → r .grid .rows ≡ digits 8 8 allOnes
   -- Decoding what was encoded gives the same data, verdict clean.
-  pub encoded : (d : ℕ) (rows : List ℕ) (r : Answer) → d < 2 ^ 16 → Encoded d rows → Decoded rows r
-      → (means (r .verdict) ≡ gives (clean d)) × (r .grid .rows ≡ rows)
-  -- Up to seven flips of a written grid, checks included, are undone, with the right data and count, and are shown as they were made.
-  pub undone : (d p : ℕ) (r : Answer) → d < 2 ^ 16 → p < 2 ^ 64 → ones p ≤ gridCode .radius → Decoded (digits 8 8 (bitXor (codeword d) p)) r
+  pub encoded : (d : ℕ) (rows : List ℕ) (e : Encoding) (r : Answer) → d < 2 ^ 16 → Encoded d e
+      → encodeMeans (e .answer) (e .grid .rows) ≡ gives rows → Decoded rows r → (means (r .verdict) ≡ gives (clean d)) × (r .grid .rows ≡ rows)
+  -- Up to seven flips of a written grid, checks included, are undone, with the right data and count, and are shown as they were made, ..
+  pub undone : (d p : ℕ) (r : Answer) → d < erased → p < 2 ^ 64 → ones p ≤ gridCode .radius → Decoded (digits 8 8 (bitXor (codeword d) p)) r
       → (means (r .verdict) ≡ gives (answered d (ones p))) × (r .grid .rows ≡ digits 8 8 (codeword d)) × (r .pattern ≡ p)
+  -- .. and an erased grid stays blank with them.
+  pub erased-undone : (p : ℕ) (r : Answer) → p < 2 ^ 64 → ones p ≤ gridCode .radius → Decoded (digits 8 8 (bitXor allOnes p)) r
+      → (means (r .verdict) ≡ gives (blank (ones p))) × (r .grid .rows ≡ digits 8 8 allOnes) × (r .pattern ≡ p)
   -- Eight are always lost, and the grid stays as read.
   pub eight : (d p : ℕ) (r : Answer) → d < 2 ^ 16 → p < 2 ^ 64 → ones p ≡ gridCode .radius + 1 → Decoded (digits 8 8 (bitXor (codeword d) p)) r
       → (means (r .verdict) ≡ refuses 1) × (r .grid .rows ≡ digits 8 8 (bitXor (codeword d) p))
 
--- What `Grid::is_clean` promises: of codewords, and of nothing else, it says that they are clean.
-pub record CleanPromises : Type 0 where
+-- What `Grid::is_codeword` promises: it is true of codewords, all ones among them, and of nothing else.
+pub record CodewordPromises : Type 0 where
   pub codewords : (rows : List ℕ) (d : ℕ) (r : Bool) → d < 2 ^ 16 → joined 8 rows ≡ codeword d → Judged rows r → r ≡ true
   pub nothing-else : (rows : List ℕ) → Judged rows true → (d : ℕ) × (d < 2 ^ 16) × (joined 8 rows ≡ codeword d)
 
 -- No second outcome satisfies the statement of a call.
 pub record OneOutcome : Type 0 where
-  pub encode : (d : ℕ) (a b : List ℕ) → Encoded d a → Encoded d b → a ≡ b
+  pub encode : (d : ℕ) (a b : Encoding) → Encoded d a → Encoded d b → a ≡ b
   pub number : (rows : List ℕ) (a b : ℕ) → Numbered rows a → Numbered rows b → a ≡ b
   pub of-number : (w : ℕ) (a b : List ℕ) → Parted w a → Parted w b → a ≡ b
-  pub is-clean : (rows : List ℕ) (a b : Bool) → Judged rows a → Judged rows b → a ≡ b
+  pub is-codeword : (rows : List ℕ) (a b : Bool) → Judged rows a → Judged rows b → a ≡ b
   pub decode-and-mend : (rows : List ℕ) (a b : Answer) → Decoded rows a → Decoded rows b → a ≡ b

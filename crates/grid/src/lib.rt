@@ -25,14 +25,29 @@ ghost use Rattle.grid_trials.specs.Steps.{Nearby};
 ghost use Rattle.grid_trials.specs.declared.Near.the-variants.{Within};
 ghost use Rattle.grid.specs.Calls.{Encoded, Numbered, Parted, Judged, Decoded};
 use grid_trials::Near;
+use refusals::Refusal;
 
 pub struct Grid {
     pub rows: [u8; 8],
 }
 
-// What was read, by the nearest codeword: its data, and the number of places that were not its own.
+// The answer of the encoder. It refuses 65,535, whose grid is all ones.
+pub enum EncodeAnswer {
+    Done,
+    Refused(Refusal),
+}
+
+// The answer of the encoder, and beside it the grid: all zero where the value is refused.
+pub struct Encoding {
+    pub answer: EncodeAnswer,
+    pub grid: Grid,
+}
+
+// What was read, by the nearest codeword: its data, and the number of places that were not its own. All ones is an erased grid, which has
+// no data.
 pub enum Verdict {
     Clean(u16),
+    Blank { flips: u32 },
     Mended { data: u16, flips: u32 },
     Lost,
 }
@@ -53,11 +68,20 @@ impl Grid {
     pub const DISTANCE: u32 = 16;
 
     // The grid of a data value. RADIUS, LENGTH and DISTANCE are the code's own.
-    pub fn encode(value: u16) -> Grid
-        ensures { λ r. ⌜ Encoded value (r .rows) ⌝ }
+    pub fn encode(value: u16) -> Encoding
+        ensures { λ r. ⌜ Encoded value r ⌝ }
         ensures constants { λ r. do ⌜ States gridCode (← ⟦Grid::RADIUS⟧ .entry) (← ⟦Grid::LENGTH⟧ .entry) (← ⟦Grid::DISTANCE⟧ .entry) ⌝ }
     {
-        Grid::of_number(grid_code::completed(grid_code::data_places(value)))
+        if value == grid_code::ERASED {
+            return Encoding {
+                answer: EncodeAnswer::Refused(Refusal::Erased),
+                grid: Grid { rows: [0; 8] },
+            };
+        }
+        Encoding {
+            answer: EncodeAnswer::Done,
+            grid: Grid::of_number(grid_code::encoded(value)),
+        }
     }
 
     // The grid as a number.
@@ -77,8 +101,8 @@ impl Grid {
         }
     }
 
-    // Whether a grid that was read is a codeword.
-    pub fn is_clean(self) -> bool
+    // Whether a grid that was read is a codeword, all ones among them.
+    pub fn is_codeword(self) -> bool
         ensures { λ r. ⌜ Judged (self .rows) r ⌝ }
     {
         let word = self.number();
@@ -89,9 +113,16 @@ impl Grid {
     fn answered(self, number: u64, flips: u32) -> Answer
         ensures { λ r. ⌜ (Nearby (self .rows) (Within number flips) → Decoded (self .rows) r) ⌝ }
     {
-        let data = grid_code::data_of(grid_code::places_of(number));
         let grid = Grid::of_number(number);
         let pattern = self.number() ^ number;
+        if number == grid_code::ALL_ONES {
+            return Answer {
+                verdict: Verdict::Blank { flips },
+                grid,
+                pattern,
+            };
+        }
+        let data = grid_code::data_of(grid_code::places_of(number));
         if flips == 0 {
             return Answer {
                 verdict: Verdict::Clean(data),
@@ -121,11 +152,11 @@ impl Grid {
         self.answered(number, flips)
     }
 
-    // The same, and quicker where the grid is clean.
+    // The same, and quicker where the grid is a codeword.
     pub fn decode(self) -> Answer
         ensures { λ r. ⌜ Decoded (self .rows) r ⌝ }
     {
-        if self.is_clean() {
+        if self.is_codeword() {
             return self.answered(self.number(), 0);
         }
         self.mend()

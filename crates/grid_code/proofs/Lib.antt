@@ -1,3 +1,4 @@
+pub mod Verdict
 pub mod Codeword
 pub mod Distance
 pub mod Places

@@ -8,4 +8,5 @@ one-outcome = record {
   completed = λ places a b p q. p .answer ∙ sym (q .answer);
   places-of = λ w a b p q. p .answer ∙ sym (q .answer);
   data-of = λ places a b p q. p .answer ∙ sym (q .answer);
+  encoded = λ d a b p q. p .answer ∙ sym (q .answer);
 }

@@ -7,13 +7,16 @@ use lib.Count.{ones}
 use lib.Dec.{lit<, lit≤}
 use Rattle.words.specs.Word.{dist}
 use Rattle.words.proofs.Digits.{bit-digits, joined-digits, digits-joined, dist-digits}
-use Rattle.codes.specs.Promises.{States}
+use Rattle.codes.specs.Verdict.{verdict}
+use Rattle.codes.specs.Promises.{States, Promises}
 use Rattle.codes.proofs.Promises.{every-code}
 use Rattle.grid_code.specs.Code.{codeword, gridCode}
+use Rattle.grid_code.specs.Verdict.{erased, allOnes}
 use Rattle.grid_code.specs.Promises.{GridPromises}
 use Rattle.grid_code.proofs.Codeword.{is-codeword, one-solution, one-value}
 use Rattle.grid_code.proofs.Distance.{in-product, codeword-lt, distance}
 use Rattle.grid_code.proofs.Places.{data-is}
+use Rattle.grid_code.proofs.Verdict as grid
 
 -- the grids of 0 and 1
 sixteen-apart : dist (codeword 0) (codeword 1) ≡ 16
@@ -30,17 +33,30 @@ states p q l h = record {
   reached = (0, 1, lit< tt, lit< tt, (λ e. absurd (omega arith)), sixteen-apart ∙ le-antisymm h l);
 }
 
+all-ones : codeword erased ≡ allOnes
+unfolding codeword
+all-ones = refl
+
+verdicts : Promises gridCode
+verdicts = every-code gridCode .promises 16 distance (lit< tt)
+
 pub promised : GridPromises
 promised = record {
   places = λ g r c hr hc. sym (bit-digits 8 8 g r c hr hc);
   there-and-back = joined-digits 8 8;
   back-and-there = digits-joined 8 8;
   meets = is-codeword;
+  all-ones = all-ones;
   one-solution = one-solution;
   one-value = one-value;
   data-places = data-is;
   in-product = in-product;
   constants = states refl refl (lit≤ tt) (lit≤ tt);
-  verdicts = every-code gridCode .promises 16 distance (lit< tt);
+  verdicts = verdicts;
   eight-are-lost = every-code gridCode .one-more-is-lost 16 distance (lit≤ tt);
+  settled = grid.settled verdicts;
+  one-verdict = grid.one-verdict verdicts;
+  demand3 = grid.demand3 verdicts;
+  flips = λ w. grid.same-flips (verdict gridCode w);
+  lost-alike = λ w. grid.lost-alike (verdict gridCode w);
 }

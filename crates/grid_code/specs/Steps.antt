@@ -25,3 +25,7 @@ pub record Masked (w r : ℕ) : Type 0 where
 -- `data_of`: the data that stands in them.
 pub record Gathered (places r : ℕ) : Type 0 where
   pub answer : r ≡ dataOf places
+
+-- `encoded`: the grid of a data value, whichever it is.
+pub record Coded (d r : ℕ) : Type 0 where
+  pub answer : r ≡ codeword d

@@ -6,10 +6,15 @@ ghost use mathlib.Core.Path.{_≡_};
 ghost use Prim.Native.Nat.{ℕ, _/_, _%_, _^_, _<_};
 ghost use Rattle.grid_code.specs.Equations.{dataOf};
 ghost use Rattle.grid_code.specs.Code.{codeword};
-ghost use Rattle.grid_code.specs.Steps.{Arranged, Completed, Masked, Gathered};
+ghost use Rattle.grid_code.specs.Steps.{Arranged, Completed, Masked, Gathered, Coded};
 
 // How far from the word read a codeword may be: the grid's radius.
 pub const RADIUS: u32 = 7;
+
+// The value that no number has: its grid is all ones, as Flash comes erased.
+pub const ERASED: u16 = 65535;
+
+pub const ALL_ONES: u64 = 0xFFFF_FFFF_FFFF_FFFF;
 
 // The data places: data bit k goes to row k / 4, place k mod 4, of rows 0 to 3 as one number.
 pub fn data_places(value: u16) -> u32
@@ -74,4 +79,11 @@ pub fn data_of(places: u32) -> u16
     let nibbles = places & 0x0F0F_0F0F;
     let pairs = (nibbles ^ (nibbles >> 4)) & 0x00FF_00FF;
     ((pairs ^ (pairs >> 8)) & 0xFFFF) as u16
+}
+
+// The grid of a data value, also of 65,535, which is all ones.
+pub fn encoded(value: u16) -> u64
+    ensures { λ r. ⌜ Coded value r ⌝ }
+{
+    completed(data_places(value))
 }

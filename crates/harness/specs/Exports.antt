@@ -3,23 +3,37 @@ use mathlib.Core.Path.{_≡_}
 use mathlib.Core.List.{List, map}
 use Prim.Native.Nat.{ℕ, _+_, _*_}
 use lib.ListN.{length}
+use Rattle.words.specs.Digits.{joined}
 use Rattle.refusals.specs.declared.Refusal.the-variants.{LostGrid}
-use Rattle.refusals.specs.Reply.{Reply, gives, refused, numbered, numberOf}
-use Rattle.codes.specs.Verdict.{Verdict, clean, mended, lost, flipsOf, verdict, scrubbed, patternOf}
+use Rattle.refusals.specs.Reply.{Reply, gives, refused, numbered, numberOf, numberIn}
+use Rattle.codes.specs.Verdict as codes
+use Rattle.codes.specs.Verdict.{scrubbed, patternOf}
 use Rattle.grid_code.specs.Code.{gridCode}
+use Rattle.grid_code.specs.Verdict.{Verdict, clean, blank, mended, lost, gridVerdict}
+use Rattle.grid.specs.Answer.{encodeMeans}
+use Rattle.grid.specs.Calls.{Encoded}
+use Rattle.grid.specs.declared.Encoding.{Encoding}
 use Rattle.block.specs.Answer.{means}
 use Rattle.block.specs.Calls.{Scrubbed}
 use Rattle.block.specs.declared.Scrub.{Scrub}
 
--- a verdict as one number: the data, the flips from bit 16 on, the number of a refusal from bit 24 on
+-- What `Grid::encode` answers, with its reply as one number, and the number of its grid.
+pub record GridEncoded (value r grid : ℕ) : Type 0 where
+  pub encoding : Encoding
+  pub is : Encoded value encoding
+  pub number : r ≡ numberIn (encodeMeans (encoding .answer) (encoding .grid .rows))
+  pub written : grid ≡ joined 8 (encoding .grid .rows)
+
+-- a verdict as one number: the data, the flips from bit 16 on, the number of a refusal from bit 24 on, and bit 32 where the grid is blank
 abbrev pub packed : Verdict → ℕ
 packed (clean d) = d
+packed (blank n) = n * 65536 + 4294967296
 packed (mended d n) = d + n * 65536
 packed lost = numberOf (numbered LostGrid) * 16777216
 
 -- the reply of a block's scrub as one number: the flips, or the number of a refusal from bit 8 on
-abbrev pub flipsOrNumber : Reply Verdict → ℕ
-flipsOrNumber (gives v) = flipsOf v
+abbrev pub flipsOrNumber : Reply codes.Verdict → ℕ
+flipsOrNumber (gives v) = codes.flipsOf v
 flipsOrNumber (refused k) = numberOf k * 256
 
 -- What `Block::scrub` answers, with its reply as one number, and its pattern.
@@ -35,7 +49,7 @@ Alike words verdicts repaired patterns = (length verdicts ≡ length words) × (
 
 -- Each word's verdict, its codeword or the word as read, and its pattern. Where the slices are not of one length, nothing is written.
 pub data Decoding (words verdicts repaired patterns verdicts′ repaired′ patterns′ : List ℕ) : Type 0 where
-  decodes : Alike words verdicts repaired patterns → verdicts′ ≡ map (λ w. packed (verdict gridCode w)) words
+  decodes : Alike words verdicts repaired patterns → verdicts′ ≡ map (λ w. packed (gridVerdict w)) words
       → repaired′ ≡ map (scrubbed gridCode) words → patterns′ ≡ map (patternOf gridCode) words
       → Decoding words verdicts repaired patterns verdicts′ repaired′ patterns′
   stays : (Alike words verdicts repaired patterns → ⊥) → verdicts′ ≡ verdicts → repaired′ ≡ repaired → patterns′ ≡ patterns

@@ -2,22 +2,29 @@
 ghost use mathlib.Core.Path.{_≡_};
 ghost use lib.ListN.{getD};
 ghost use Rattle.words.specs.Digits.{digits};
-ghost use Rattle.grid_code.specs.Equations.{Codeword};
 ghost use Rattle.grid_code.specs.Code.{gridCode};
 ghost use Rattle.grid.specs.Answer.{verdictOf};
-ghost use Rattle.harness.specs.Exports.{packed, Decoding};
+ghost use Rattle.harness.specs.Exports.{GridEncoded, packed, Decoding};
+use grid::EncodeAnswer;
 use grid::Grid;
 use grid::Verdict;
 use refusals::Refusal;
 
 mod blocks;
 
-// The number of the grid of `value`.
+// The grid of `value`: its number goes to `grid`, and 0 where it is refused. The number of the refusal is returned, and 0 where there is none.
 #[no_mangle]
-pub extern "C" fn grid_encode(value: u16) -> u64
-    ensures { λ r. ⌜ Codeword value r ⌝ }
+pub extern "C" fn grid_encode(value: u16, grid: &mut u64) -> u32
+    ensures { λ r. ⌜ GridEncoded value r (now (grid .exit)) ⌝ }
 {
-    Grid::encode(value).number()
+    let encoding = Grid::encode(value);
+    let encoded = encoding.grid;
+    *grid = encoded.number();
+    let answer = encoding.answer;
+    match answer {
+        EncodeAnswer::Done => 0,
+        EncodeAnswer::Refused(why) => why.number(),
+    }
 }
 
 // To rows and back.
@@ -58,12 +65,13 @@ pub extern "C" fn grid_distance() -> u32
     Grid::DISTANCE
 }
 
-// An answer as one number: the data, the flips from bit 16 on, the number of a refusal from bit 24 on.
+// An answer as one number: the data, the flips from bit 16 on, the number of a refusal from bit 24 on, and bit 32 where the grid is blank.
 fn packed(verdict: Verdict) -> u64
     ensures { λ r. ⌜ r ≡ packed (verdictOf verdict) ⌝ }
 {
     match verdict {
         Verdict::Clean(data) => data as u64,
+        Verdict::Blank { flips } => (flips as u64) * 65536 + 0x0001_0000_0000,
         Verdict::Mended { data, flips } => (data as u64) + (flips as u64) * 65536,
         Verdict::Lost => (Refusal::LostGrid.number() as u64) * 0x0100_0000,
     }

@@ -20,6 +20,8 @@ use Rattle.card_write.specs.declared.WriteAnswer.{WriteAnswer}
 use Rattle.card_write.specs.Answer.{means as writeMeans}
 use Rattle.card_read.specs.declared.ReadAnswer.{ReadAnswer}
 use Rattle.card_read.specs.Answer.{means as readMeans}
+use Rattle.lines.specs.declared.LinesAnswer.{LinesAnswer}
+use Rattle.lines.specs.Answer.{means as linesMeans}
 
 -- a number in 16 bits; one that does not fit is shown as 65,535, which no right answer has
 abbrev pub short : ℕ → ℕ
@@ -54,16 +56,20 @@ scrubShown a = shown (λ t. packed 0 0 0) (scrubMeans a)
 abbrev pub writeShown : WriteAnswer → ℕ
 writeShown a = shown (λ k. packed 0 k 0) (writeMeans a)
 
--- .. the title's length and the grids.
+-- .. the title's length and the grids; ..
 abbrev pub readShown : ReadAnswer → ℕ
 readShown a = shown (λ v. packed 0 (v .title) (v .grids)) (readMeans a)
 
--- the five numbers of the grids and the five of the blocks, where tallies are given, ..
+-- .. the bytes of text.
+abbrev pub linesShown : LinesAnswer → ℕ
+linesShown a = shown (λ n. packed 0 n 0) (linesMeans a)
+
+-- the six numbers of the grids and the five of the blocks, where tallies are given, ..
 abbrev pub tallied : Reply Tallies → List ℕ → List ℕ
 tallied (gives t) before =
     let g = t .grids in
     let b = t .blocks in
-    laid (g .grids ∷ g .clean ∷ g .mended ∷ g .lost ∷ g .flips ∷ b .blocks ∷ b .clean ∷ b .mended ∷ b .lost ∷ b .flips ∷ []) before
+    laid (g .grids ∷ g .clean ∷ g .blank ∷ g .mended ∷ g .lost ∷ g .flips ∷ b .blocks ∷ b .clean ∷ b .mended ∷ b .lost ∷ b .flips ∷ []) before
 tallied (refused k) before = before
 
 -- .. and the pattern
@@ -71,9 +77,9 @@ abbrev pub patternShown : Reply Tallies → ℕ → ℕ
 patternShown (gives t) before = t .grids .pattern
 patternShown (refused k) before = before
 
--- With ten places for the numbers: what `card::scrub` gives. Else 255, and nothing is written.
+-- With eleven places for the numbers: what `card::scrub` gives. Else 255, and nothing is written.
 pub data Exported (image tallies : List ℕ) (pattern r : ℕ) (image′ tallies′ : List ℕ) (pattern′ : ℕ) : Type 0 where
-  scrubs : length tallies ≡ 10 → (a : ScrubAnswer) → Scrubbed image a image′ → r ≡ scrubShown a → tallies′ ≡ tallied (scrubMeans a) tallies
+  scrubs : length tallies ≡ 11 → (a : ScrubAnswer) → Scrubbed image a image′ → r ≡ scrubShown a → tallies′ ≡ tallied (scrubMeans a) tallies
       → pattern′ ≡ patternShown (scrubMeans a) pattern → Exported image tallies pattern r image′ tallies′ pattern′
-  stays : length tallies ≢ 10 → r ≡ packed 255 0 0 → image′ ≡ image → tallies′ ≡ tallies → pattern′ ≡ pattern
+  stays : length tallies ≢ 11 → r ≡ packed 255 0 0 → image′ ≡ image → tallies′ ≡ tallies → pattern′ ≡ pattern
       → Exported image tallies pattern r image′ tallies′ pattern′

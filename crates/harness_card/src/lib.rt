@@ -9,13 +9,16 @@ ghost use Rattle.card_write.specs.declared.WriteAnswer.{WriteAnswer};
 ghost use Rattle.card_write.specs.Calls.{Wrote};
 ghost use Rattle.card_read.specs.declared.ReadAnswer.{ReadAnswer};
 ghost use Rattle.card_read.specs.Calls.{Read};
-ghost use Rattle.harness_card.specs.Exports.{short, packed, numberShown, checkShown, writeShown, readShown, Exported};
+ghost use Rattle.lines.specs.declared.LinesAnswer.{LinesAnswer};
+ghost use Rattle.lines.specs.Calls.{Printed};
+ghost use Rattle.harness_card.specs.Exports.{short, packed, numberShown, checkShown, writeShown, readShown, linesShown, Exported};
 use card::Place;
 use card::ReadAnswer;
 use card::Refusal;
 use card::ScrubAnswer;
 use card::WriteAnswer;
 use image::CheckAnswer;
+use lines::LinesAnswer;
 
 // A number in 16 bits. One that does not fit is 65,535, which no right answer has.
 fn short(n: usize) -> u64
@@ -55,13 +58,13 @@ pub extern "C" fn image_check(image: &[u8]) -> u64
     }
 }
 
-// The five numbers of the grids and the five of the blocks go to `tallies`, which has ten places, and the last mended grid's pattern to
+// The six numbers of the grids and the five of the blocks go to `tallies`, which has eleven places, and the last mended grid's pattern to
 // `pattern`; 255 is returned where `tallies` has another length, and then nothing is done.
 #[no_mangle]
 pub extern "C" fn image_scrub(image: &mut [u8], tallies: &mut [u32], pattern: &mut u64) -> u64
     ensures { λ r. ⌜ Exported (now (image .entry)) (now (tallies .entry)) (now (pattern .entry)) r (now (image .exit)) (now (tallies .exit)) (now (pattern .exit)) ⌝ }
 {
-    if tallies.len() != 10 {
+    if tallies.len() != 11 {
         return packed(255, 0, 0);
     }
     match card::scrub(image) {
@@ -70,14 +73,15 @@ pub extern "C" fn image_scrub(image: &mut [u8], tallies: &mut [u32], pattern: &m
             let blocks = t.blocks;
             tallies[0] = grids.grids;
             tallies[1] = grids.clean;
-            tallies[2] = grids.mended;
-            tallies[3] = grids.lost;
-            tallies[4] = grids.flips;
-            tallies[5] = blocks.blocks;
-            tallies[6] = blocks.clean;
-            tallies[7] = blocks.mended;
-            tallies[8] = blocks.lost;
-            tallies[9] = blocks.flips;
+            tallies[2] = grids.blank;
+            tallies[3] = grids.mended;
+            tallies[4] = grids.lost;
+            tallies[5] = grids.flips;
+            tallies[6] = blocks.blocks;
+            tallies[7] = blocks.clean;
+            tallies[8] = blocks.mended;
+            tallies[9] = blocks.lost;
+            tallies[10] = blocks.flips;
             *pattern = grids.pattern;
             packed(0, 0, 0)
         }
@@ -109,5 +113,16 @@ pub extern "C" fn image_read(
     match card::read(image, title, numbers, flips) {
         ReadAnswer::Done { title, grids } => packed(0, title, grids),
         ReadAnswer::Refused(why) => refused(why),
+    }
+}
+
+// The bytes of text.
+#[no_mangle]
+pub extern "C" fn image_lines(image: &mut [u8], text: &mut [u8]) -> u64
+    ensures { λ r. ⌜ ((a : LinesAnswer) × Printed (now (image .entry)) (now (text .entry)) a (now (image .exit)) (now (text .exit)) × (r ≡ linesShown a)) ⌝ }
+{
+    match lines::scrub(image, text) {
+        LinesAnswer::Done(n) => packed(0, n, 0),
+        LinesAnswer::Refused(why) => refused(why),
     }
 }

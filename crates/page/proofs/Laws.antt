@@ -1,5 +1,6 @@
 -- A turn of the scrub's loop, over plain values: one grid more is put right and counted. Assumes nothing.
 use mathlib.Core.Path.{_≡_, sym, ap, _∙_, subst}
+use mathlib.Core.Logic.{_≢_}
 use mathlib.Core.Bool.{true}
 use mathlib.Core.List.{List}
 use Prim.Native.Nat.{ℕ, _+_, _^_, _≤_, _<_}
@@ -9,37 +10,58 @@ use lib.Seq.{length-take-le}
 use Rattle.words.specs.Digits.{digits, joined}
 use Rattle.words.proofs.Digits.{joined-digits}
 use Rattle.words.proofs.Lists.{partly, partly-at, partly-step}
-use Rattle.codes.specs.Verdict.{Verdict, clean, flipsOf, verdict, repaired, scrubbed, patternOf}
-use Rattle.codes.specs.Tally.{isClean, isMended, isLost}
+use Rattle.codes.specs.Verdict as codes
+use Rattle.codes.specs.Verdict.{verdict, scrubbed, patternOf}
 use Rattle.codes.proofs.Promises.{clean-word}
-use Rattle.codes.proofs.Last.{last-step}
-use Rattle.codes.proofs.Tally.{one-kind, sum-bound, sum-step, few-flips}
+use Rattle.codes.proofs.Tally.{unflipped, sum-step}
 use Rattle.grid_code.specs.Code.{gridCode}
+use Rattle.grid_code.specs.Verdict.{Verdict, clean, blank, allOnes, named, gridVerdict, flipsOf, isClean, isBlank, isMended, isLost}
 use Rattle.grid_code.proofs.Promises as grid
+use Rattle.grid_code.proofs.Verdict.{named-blank, named-clean, one-kind}
 use Rattle.grid.specs.Calls.{Judged}
-use Rattle.grid.proofs.Verdicts.{judged-clean}
-use Rattle.page.specs.Calls.{gridTally}
+use Rattle.grid.proofs.Verdicts.{all-ones-is, other-is, judged-clean}
+use Rattle.page.specs.Tally.{gridTally}
 use Rattle.page.specs.Steps.{counted, Roomy}
 use Rattle.page.specs.declared.Tally.{Tally}
+use Rattle.page.proofs.Last.{last-step}
+use Rattle.page.proofs.Counts.{seven-flips, sum-flips, tallies}
 
 -- ---- one grid
 
--- a clean grid stays as it is, and counts as any clean one
-pub decoded-clean : (w : ℕ) (rows : List ℕ) → w < 2 ^ 64 → rows ≡ digits 8 8 w → Judged rows true
-    → (w ≡ scrubbed gridCode w)
-    × ((t : Tally) → (counted t (clean 0) 0 ≡ counted t (verdict gridCode w) (patternOf gridCode w)) × (Roomy t (verdict gridCode w) → Roomy t (clean 0)))
-decoded-clean w rows l e j =
-    let same : joined 8 rows ≡ w = ap (joined 8) e ∙ joined-digits 8 8 w l in
-    let (d, p) = judged-clean rows j in
-    let v : verdict gridCode w ≡ clean d = sym (ap (verdict gridCode) same) ∙ p in (
-      clean-word gridCode (grid.promised .verdicts) w d v .1 ∙ sym (ap (repaired gridCode w) v),
-      λ t. (
-        ap (λ u. counted t u (patternOf gridCode w)) (sym v),
-        λ r.
-            let s : Roomy t (clean d) = subst (Roomy t) v r in
-            record { words = s .words; clean = s .clean; mended = s .mended; lost = s .lost; flips = s .flips },
-      ),
-    )
+-- a codeword was read
+module _ (w : ℕ) (rows : List ℕ) (l : w < 2 ^ 64) (e : rows ≡ digits 8 8 w) (j : Judged rows true) where
+  code-clean : (d : ℕ) × (verdict gridCode w ≡ codes.clean d)
+  code-clean =
+      let (d, p) = judged-clean rows j in
+      (d, sym (ap (verdict gridCode) (ap (joined 8) e ∙ joined-digits 8 8 w l)) ∙ p)
+
+  -- a codeword stays as it is, ..
+  pub codeword-kept : w ≡ scrubbed gridCode w
+  codeword-kept = let (d, v) = code-clean in sym (unflipped gridCode (grid.promised .verdicts) w (ap codes.flipsOf v))
+
+  -- .. all ones is blank, ..
+  pub all-ones-blank : w ≡ allOnes → gridVerdict w ≡ blank 0
+  all-ones-blank is =
+      let (d, v) = code-clean in
+      let c = clean-word gridCode (grid.promised .verdicts) w d v in
+      ap named v ∙ named-blank d 0 (all-ones-is d (c .0) (sym (c .1) ∙ is))
+
+  -- .. and any other counts as any clean one
+  pub others-clean : w ≢ allOnes → (d : ℕ) × (gridVerdict w ≡ clean d)
+  others-clean ne =
+      let (d, v) = code-clean in
+      let c = clean-word gridCode (grid.promised .verdicts) w d v in
+      (d, ap named v ∙ named-clean d (other-is d w (c .1) ne))
+
+-- which data a clean grid has does not count
+module _ (t : Tally) (v : Verdict) (d : ℕ) (is : v ≡ clean d) where
+  pub clean-counts : (p : ℕ) → counted t (clean 0) 0 ≡ counted t v p
+  clean-counts p = ap (λ u. counted t u p) (sym is)
+
+  pub clean-roomy : Roomy t v → Roomy t (clean 0)
+  clean-roomy r =
+      let s : Roomy t (clean d) = subst (Roomy t) is r in
+      record { grids = s .grids; clean = s .clean; blank = s .blank; mended = s .mended; lost = s .lost; flips = s .flips }
 
 -- ---- a turn
 
@@ -51,33 +73,31 @@ module _ (page now : List ℕ) (i : ℕ) (t : Tally) (inside : i < length page) 
   pub turn-page : (w : ℕ) → w ≡ scrubbed gridCode (getD now i 0) → set now i w ≡ partly (scrubbed gridCode) (i + 1) page
   turn-page w e = rw (e, read, so-far) (partly-step (scrubbed gridCode) page i inside)
 
-  pub turn-tally : counted t (verdict gridCode (getD now i 0)) (patternOf gridCode (getD now i 0)) ≡ gridTally (take (i + 1) page)
+  pub turn-tally : counted t (gridVerdict (getD now i 0)) (patternOf gridCode (getD now i 0)) ≡ gridTally (take (i + 1) page)
   turn-tally =
       rw (counts, read)
       (simp (
-        last-step gridCode page i inside,
-        sum-step gridCode isClean page i inside,
-        sum-step gridCode isMended page i inside,
-        sum-step gridCode isLost page i inside,
-        sum-step gridCode flipsOf page i inside,
+        last-step page i inside,
+        sum-step gridCode (λ v. isClean (named v)) page i inside,
+        sum-step gridCode (λ v. isBlank (named v)) page i inside,
+        sum-step gridCode (λ v. isMended (named v)) page i inside,
+        sum-step gridCode (λ v. isLost (named v)) page i inside,
+        sum-step gridCode (λ v. flipsOf (named v)) page i inside,
         length-take-le (i + 1) page (omega arith),
         length-take-le i page (omega arith),
       ))
 
-  pub turn-roomy : Roomy t (verdict gridCode (getD now i 0))
+  pub turn-roomy : Roomy t (gridVerdict (getD now i 0))
   turn-roomy =
       rw (counts, read)
-      (let u : Verdict = verdict gridCode (getD page i 0) in
+      (let u : Verdict = gridVerdict (getD page i 0) in
       let n : length (take i page) ≡ i = length-take-le i page (omega arith) in
+      let all = tallies .all (take i page) in
       record {
-        words = omega arith;
-        clean = omega (arith, one-kind u, sum-bound gridCode isClean 1 (λ w. omega (arith, one-kind (verdict gridCode w))) (take i page));
-        mended = omega (arith, one-kind u, sum-bound gridCode isMended 1 (λ w. omega (arith, one-kind (verdict gridCode w))) (take i page));
-        lost = omega (arith, one-kind u, sum-bound gridCode isLost 1 (λ w. omega (arith, one-kind (verdict gridCode w))) (take i page));
-        flips =
-            omega (
-              arith,
-              few-flips gridCode (grid.promised .verdicts) (getD page i 0),
-              sum-bound gridCode flipsOf 7 (few-flips gridCode (grid.promised .verdicts)) (take i page),
-            );
+        grids = omega arith;
+        clean = omega (arith, one-kind u, all);
+        blank = omega (arith, one-kind u, all);
+        mended = omega (arith, one-kind u, all);
+        lost = omega (arith, one-kind u, all);
+        flips = omega (arith, seven-flips (getD page i 0), sum-flips (take i page));
       })

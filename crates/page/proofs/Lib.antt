@@ -1,2 +1,4 @@
+pub mod Last
+pub mod Counts
 pub mod Laws
 pub mod Promises

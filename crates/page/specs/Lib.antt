@@ -1,4 +1,5 @@
 pub mod Answer
+pub mod Tally
 pub mod Calls
 pub mod Promises
 pub mod Steps

@@ -1,25 +1,28 @@
-// A page of up to 512 grids, each a 64-bit number, scrubbed where it stands: mended grids are replaced by their codewords, and clean and
-// lost ones stay as they are. What is counted is returned, with the pattern of the last mended grid.
+// A page of up to 512 grids, each a 64-bit number, scrubbed where it stands: mended grids are replaced by their codewords and blank ones by
+// all ones, and clean and lost ones stay as they are. What is counted is returned, with the pattern of the last mended grid.
 //
-// specs/Calls.antt says what a scrub answers and leaves, specs/Promises.antt what is proved of it.
+// specs/Tally.antt says what is counted, specs/Calls.antt what a scrub answers and leaves, and specs/Promises.antt what is proved of it.
 ghost use mathlib.Core.Path.{_≡_};
 ghost use mathlib.Core.List.{map};
 ghost use Prim.Native.Nat.{_≤_};
 ghost use lib.ListN.{length};
-ghost use Rattle.codes.specs.Verdict.{verdict, scrubbed, patternOf};
+ghost use Rattle.codes.specs.Verdict.{scrubbed, patternOf};
 ghost use Rattle.grid_code.specs.Code.{gridCode};
+ghost use Rattle.grid_code.specs.Verdict.{gridVerdict};
 ghost use Rattle.grid.specs.Answer.{verdictOf};
-ghost use Rattle.page.specs.Calls.{mostGrids, gridTally, NoGrids, Scrubbed};
+ghost use Rattle.page.specs.Tally.{gridTally};
+ghost use Rattle.page.specs.Calls.{mostGrids, NoGrids, Scrubbed};
 ghost use Rattle.page.specs.Steps.{counted, Roomy};
 use grid::Grid;
 use grid::Verdict;
 use refusals::Refusal;
 
-// The five numbers of a scrub; flips is the sum over mended grids. And beside them, which is no sixth number, the pattern of the last
-// mended grid: the places that were flipped there. It is zero where none is mended.
+// The six numbers of a scrub; flips is the sum over mended and blank grids. And beside them, which is no seventh number, the pattern of the
+// last mended grid: the places that were flipped there. It is zero where none is mended.
 pub struct Tally {
     pub grids: u32,
     pub clean: u32,
+    pub blank: u32,
     pub mended: u32,
     pub lost: u32,
     pub flips: u32,
@@ -49,6 +52,7 @@ impl Tally {
         Tally {
             grids: 0,
             clean: 0,
+            blank: 0,
             mended: 0,
             lost: 0,
             flips: 0,
@@ -67,6 +71,10 @@ impl Tally {
             Verdict::Clean(_) => {
                 next.clean = next.clean + 1;
             }
+            Verdict::Blank { flips } => {
+                next.blank = next.blank + 1;
+                next.flips = next.flips + flips;
+            }
             Verdict::Mended { data: _, flips } => {
                 next.mended = next.mended + 1;
                 next.flips = next.flips + flips;
@@ -81,11 +89,17 @@ impl Tally {
 
     // One more grid, put right and counted. The data of a clean one is not asked for.
     fn with_grid(self, word: u64) -> Step
-        requires { ⌜ Roomy self (verdict gridCode word) ⌝ }
-        ensures { λ r. ⌜ (r .word ≡ scrubbed gridCode word) × (r .tally ≡ counted self (verdict gridCode word) (patternOf gridCode word)) ⌝ }
+        requires { ⌜ Roomy self (gridVerdict word) ⌝ }
+        ensures { λ r. ⌜ (r .word ≡ scrubbed gridCode word) × (r .tally ≡ counted self (gridVerdict word) (patternOf gridCode word)) ⌝ }
     {
         let grid = Grid::of_number(word);
-        if grid.is_clean() {
+        if grid.is_codeword() {
+            if word == grid_code::ALL_ONES {
+                return Step {
+                    word,
+                    tally: self.counted(Verdict::Blank { flips: 0 }, 0),
+                };
+            }
             return Step {
                 word,
                 tally: self.counted(Verdict::Clean(0), 0),

@@ -3,7 +3,7 @@ use mathlib.Core.Path.{_≡_, sym, _∙_}
 use Prim.Native.Nat.{ℕ, _<_}
 use native.Mathlib.Omega.{arith}
 use Rattle.refusals.specs.declared.Refusal.{Refusal}
-use Rattle.refusals.specs.declared.Refusal.the-variants.{LostGrid, LostBlock, Length, Broken, Room}
+use Rattle.refusals.specs.declared.Refusal.the-variants.{LostGrid, LostBlock, Length, Broken, Room, Erased}
 use Rattle.refusals.specs.Reply.{gives, refusal, numbered, numberOf}
 use Rattle.refusals.specs.Promises.{OneOutcome}
 
@@ -18,6 +18,7 @@ few-numbers LostBlock = omega arith
 few-numbers Length = omega arith
 few-numbers (Broken at) = omega arith
 few-numbers Room = omega arith
+few-numbers Erased = omega arith
 
 pub one-outcome : OneOutcome
 one-outcome = record {

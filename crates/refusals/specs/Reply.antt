@@ -1,7 +1,7 @@
 -- The table of refusals (docs/FORMAT.md, The refusals), and what a call says in its terms. Assumes nothing.
 use Prim.Native.Nat.{ℕ}
 use Rattle.refusals.specs.declared.Refusal.{Refusal}
-use Rattle.refusals.specs.declared.Refusal.the-variants.{LostGrid, LostBlock, Length, Broken, Room}
+use Rattle.refusals.specs.declared.Refusal.the-variants.{LostGrid, LostBlock, Length, Broken, Room, Erased}
 use Rattle.refusals.specs.declared.Place.{Place}
 use Rattle.refusals.specs.declared.Place.the-variants.{At, Nowhere}
 
@@ -17,6 +17,7 @@ numbered LostBlock = bare 2
 numbered Length = bare 3
 numbered (Broken at) = placed 4 at
 numbered Room = bare 6
+numbered Erased = bare 7
 
 abbrev pub numberOf : Number → ℕ
 numberOf (bare n) = n

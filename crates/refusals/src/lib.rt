@@ -11,6 +11,7 @@ pub enum Refusal {
     Length,
     Broken(usize),
     Room,
+    Erased,
 }
 
 // Where a refusal is, if the table names a place for it.
@@ -30,6 +31,7 @@ impl Refusal {
             Refusal::Length => 3,
             Refusal::Broken(_) => 4,
             Refusal::Room => 6,
+            Refusal::Erased => 7,
         }
     }
 
@@ -43,6 +45,7 @@ impl Refusal {
             Refusal::Length => Place::Nowhere,
             Refusal::Broken(at) => Place::At(at),
             Refusal::Room => Place::Nowhere,
+            Refusal::Erased => Place::Nowhere,
         }
     }
 }

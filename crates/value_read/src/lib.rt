@@ -26,6 +26,10 @@ fn show(grid: Grid) -> Shown
             number: data,
             flips: 0,
         },
+        Verdict::Blank { flips } => Shown {
+            number: grid_code::ERASED,
+            flips: (flips as u8) + 128,
+        },
         Verdict::Mended { data, flips } => Shown {
             number: data,
             flips: flips as u8,

@@ -15,17 +15,18 @@ use Rattle.words.specs.Bytes.{wordsIn, bytesOf}
 use Rattle.words.proofs.Digits.{length-digits, digits-joined}
 use Rattle.words.proofs.Bytes.{length-words, words-two, bytes-append, bytes-words, words-below}
 use Rattle.refusals.specs.declared.Refusal.the-variants.{Length}
-use Rattle.codes.specs.Verdict.{Verdict, clean, mended, lost, flipsOf, verdict, scrubbed}
-use Rattle.codes.specs.Tally.{sumBy, lastFrom, tallyOfOne, Tally as Counted}
-use Rattle.codes.specs.Steps.{plus, Small, later}
-use Rattle.codes.proofs.Last.{last-two}
-use Rattle.codes.proofs.Tally.{unflipped, none-flipped, tally-append, small-sum, tallies}
+use Rattle.codes.specs.Verdict.{Verdict, clean, mended, lost, verdict, scrubbed}
+use Rattle.codes.specs.Tally.{sumBy, tallyOfOne, Tally as Counted}
+use Rattle.codes.specs.Steps as codes
+use Rattle.codes.proofs.Tally.{unflipped, tallies}
 use Rattle.grid_code.specs.Code.{gridCode}
-use Rattle.grid_code.proofs.Promises as grid
+use Rattle.grid_code.specs.Verdict.{flipsOf}
 use Rattle.page.specs.declared.Tally.{Tally}
 use Rattle.page.specs.declared.PageAnswer.the-variants.{Done as PageDone}
-use Rattle.page.specs.Answer.{tallyIn}
-use Rattle.page.specs.Calls.{ofGrids, gridTally, NoGrids, Scrubbed}
+use Rattle.page.specs.Tally.{sumGrids, lastFrom, gridTally}
+use Rattle.page.specs.Calls.{NoGrids, Scrubbed}
+use Rattle.page.specs.Steps.{Small, plus}
+use Rattle.page.proofs.Counts.{kept, tally-two, small-sum}
 use Rattle.page.proofs.Promises.{was-done}
 use Rattle.block_code.specs.Code.{blockCode}
 use Rattle.block_code.proofs.Promises as blocks
@@ -40,7 +41,7 @@ use Rattle.values.specs.Steps.{gridsOf, Put}
 use Rattle.values.proofs.Fits.{put-there}
 use Rattle.value_scrub.specs.declared.Blocks.{Blocks}
 use Rattle.value_scrub.specs.Tally.{ofBlocks, blockTally}
-use Rattle.value_scrub.specs.Steps.{NoBlocks, wrapped, bothGrids, Added, RoomyGrids, ScrubbedGrids, ScrubbedBlock, AnyGrids, AnyBlock}
+use Rattle.value_scrub.specs.Steps.{NoBlocks, wrapped, wrappedGrids, Added, ScrubbedGrids, ScrubbedBlock, AnyGrids, AnyBlock}
 
 -- ---- by way of a page
 
@@ -68,20 +69,17 @@ module _ (value page after : List ℕ) (n : ℕ) (t : Tally) (fits : length valu
   pub page-kept : t .flips ≡ 0 → ScrubbedGrids value t value
   page-kept z =
       let ws = gridsOf value in
-      let none : sumBy gridCode flipsOf ws ≡ 0 = sym (ap (λ t. t .flips) tally) ∙ z in
+      let none : sumGrids flipsOf ws ≡ 0 = sym (ap (λ t. t .flips) tally) ∙ z in
       record {
         answer = tally;
-        after = sym (ap (bytesOf 8) (none-flipped gridCode (grid.promised .verdicts) ws none) ∙ bytes-words 8 (length value / 8) value (omega (arith, fits)) bytes);
+        after = sym (ap (bytesOf 8) (kept ws none) ∙ bytes-words 8 (length value / 8) value (omega (arith, fits)) bytes);
       }
 
 -- ---- two parts of a value
 
-pub tally-two : (a b : List ℕ) → gridTally (a ++ b) ≡ bothGrids (gridTally a) (gridTally b)
-tally-two a b = ap₂ ofGrids (tally-append gridCode a b) (last-two gridCode (grid.promised .verdicts) a b)
-
 -- both scrubbed, each by itself
 pub grids-two : (a b a′ b′ : List ℕ) (r s : Tally) → length a % 8 ≡ 0 → length b % 8 ≡ 0
-    → ScrubbedGrids a r a′ → ScrubbedGrids b s b′ → ScrubbedGrids (a ++ b) (bothGrids r s) (a′ ++ b′)
+    → ScrubbedGrids a r a′ → ScrubbedGrids b s b′ → ScrubbedGrids (a ++ b) (plus r s) (a′ ++ b′)
 grids-two a b a′ b′ r s p q x y =
     let m : ℕ = length a / 8 in
     let n : ℕ = length b / 8 in
@@ -89,7 +87,7 @@ grids-two a b a′ b′ r s p q x y =
     let ws : gridsOf (a ++ b) ≡ wordsIn 8 m a ++ wordsIn 8 n b =
     ap (λ (j : ℕ). wordsIn 8 j (a ++ b)) e ∙ words-two 8 m n a b (omega (arith, p)) in
     record {
-      answer = ap₂ bothGrids (x .answer) (y .answer) ∙ sym (ap gridTally ws ∙ tally-two (wordsIn 8 m a) (wordsIn 8 n b));
+      answer = ap₂ plus (x .answer) (y .answer) ∙ sym (ap gridTally ws ∙ tally-two (wordsIn 8 m a) (wordsIn 8 n b));
       after =
           ap₂ {C = List ℕ} (λ (c d : List ℕ). c ++ d) (x .after) (y .after)
           ∙ sym (bytes-append 8 (map (scrubbed gridCode) (wordsIn 8 m a)) (map (scrubbed gridCode) (wordsIn 8 n b)))
@@ -98,19 +96,19 @@ grids-two a b a′ b′ r s p q x y =
 
 -- the numbers of a tally are small
 pub grids-roomy : (a b a′ b′ : List ℕ) (r s : Tally) → length a ≤ 32768 → length b ≤ 32768 → ScrubbedGrids a r a′ → ScrubbedGrids b s b′
-    → RoomyGrids r s
+    → Small (plus r s)
 grids-roomy a b a′ b′ r s l m x y =
-    let few = small-sum gridCode (grid.promised .verdicts) 4096 (gridsOf a) (gridsOf b) (omega (arith, length-words 8 (length a / 8) a))
-    (omega (arith, length-words 8 (length b / 8) b)) (lit< tt) (lit< tt) in
-    subst (λ r. RoomyGrids r s) (sym (x .answer)) (subst (RoomyGrids (gridTally (gridsOf a))) (sym (y .answer)) few)
+    let few = small-sum 4096 (gridsOf a) (gridsOf b) (omega (arith, length-words 8 (length a / 8) a)) (omega (arith, length-words 8 (length b / 8) b))
+    (lit< tt) in
+    subst (λ r. Small (plus r s)) (sym (x .answer)) (subst (λ s. Small (plus (gridTally (gridsOf a)) s)) (sym (y .answer)) few)
 
 -- of no grids
 pub no-grids : (r : Tally) → NoGrids r → ScrubbedGrids [] r []
 unfolding sumBy lastFrom wordsIn bytesOf
 no-grids r h = record { answer = h .answer; after = refl }
 
--- where there is room for each number, nothing wraps
-pub whole-sum : (t : Counted) → Small t → wrapped t ≡ t
+-- where there is room for each number, nothing wraps: of blocks, ..
+pub whole-sum : (t : Counted) → codes.Small t → wrapped t ≡ t
 whole-sum t room = λ i. record {
   words = mod-eq-of-lt (room .words) i;
   clean = mod-eq-of-lt (room .clean) i;
@@ -119,8 +117,17 @@ whole-sum t room = λ i. record {
   flips = mod-eq-of-lt (room .flips) i;
 }
 
-added-up : (a b r : Tally) → RoomyGrids a b → Added a b r → r ≡ bothGrids a b
-added-up a b r room h = h .answer ∙ ap (λ t. ofGrids t (later (a .pattern) (b .pattern))) (whole-sum (plus (tallyIn a) (tallyIn b)) room)
+-- .. and of grids
+pub whole-grids : (t : Tally) → Small t → wrappedGrids t ≡ t
+whole-grids t room = λ i. record {
+  grids = mod-eq-of-lt (room .grids) i;
+  clean = mod-eq-of-lt (room .clean) i;
+  blank = mod-eq-of-lt (room .blank) i;
+  mended = mod-eq-of-lt (room .mended) i;
+  lost = mod-eq-of-lt (room .lost) i;
+  flips = mod-eq-of-lt (room .flips) i;
+  pattern = t .pattern;
+}
 
 -- One page more. Of the value as it was, the bytes before `at` are scrubbed, and those from there on are as they were.
 module _ (value now : List ℕ) (at n m : ℕ) (t r u : Tally) (page : List ℕ) (few : length value ≤ 4096) (inside : at + 8 * n ≤ length value)
@@ -154,7 +161,7 @@ module _ (value now : List ℕ) (at n m : ℕ) (t r u : Tally) (page : List ℕ)
       grids-two (take at value) (take (8 * n) (drop at value)) (take at now) page t r (omega (arith, l, whole)) (omega (arith, m)) front there in
       subst (λ w. ScrubbedGrids w u (take (at + 8 * n) next)) (sym (take-add at (8 * n) value))
       (record {
-        answer = added-up t r u room sum ∙ two .answer;
+        answer = sum .answer ∙ whole-grids (plus t r) room ∙ two .answer;
         after = ap (take (at + 8 * n)) parted ∙ take-at (take at now ++ page) (drop (at + 8 * n) now) (at + 8 * n) front-long ∙ two .after;
       })
 

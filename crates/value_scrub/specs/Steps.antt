@@ -9,11 +9,10 @@ use Rattle.words.specs.Digits.{digits, joined}
 use Rattle.words.specs.Bytes.{wordsIn, bytesOf}
 use Rattle.codes.specs.Verdict.{scrubbed}
 use Rattle.codes.specs.Tally.{Tally as Counted}
-use Rattle.codes.specs.Steps.{plus, Small, later}
 use Rattle.grid_code.specs.Code.{gridCode}
 use Rattle.page.specs.declared.Tally.{Tally}
-use Rattle.page.specs.Answer.{tallyIn}
-use Rattle.page.specs.Calls.{ofGrids, gridTally}
+use Rattle.page.specs.Tally.{gridTally}
+use Rattle.page.specs.Steps.{plus}
 use Rattle.block_code.specs.Code.{blockCode}
 use Rattle.fields.specs.Fields.{blockBytes, isGrids}
 use Rattle.values.specs.Steps.{gridsOf}
@@ -26,7 +25,7 @@ use Rattle.value_scrub.specs.Tally.{blockTally}
 pub record NoBlocks (r : Blocks) : Type 0 where
   pub answer : r ≡ record { blocks = 0; clean = 0; mended = 0; lost = 0; flips = 0 }
 
--- a tally in numbers of 32 bits, which start again from 0
+-- a tally of blocks in numbers of 32 bits, which start again from 0
 abbrev pub wrapped : Counted → Counted
 wrapped t = record {
   words = t .words % 2 ^ 32;
@@ -36,21 +35,25 @@ wrapped t = record {
   flips = t .flips % 2 ^ 32;
 }
 
--- of grids that come in two parts: the sum, and the pattern that is passed on, ..
-abbrev pub bothGrids : Tally → Tally → Tally
-bothGrids a b = ofGrids (plus (tallyIn a) (tallyIn b)) (later (a .pattern) (b .pattern))
+-- the same of grids; the pattern stays
+abbrev pub wrappedGrids : Tally → Tally
+wrappedGrids t = record {
+  grids = t .grids % 2 ^ 32;
+  clean = t .clean % 2 ^ 32;
+  blank = t .blank % 2 ^ 32;
+  mended = t .mended % 2 ^ 32;
+  lost = t .lost % 2 ^ 32;
+  flips = t .flips % 2 ^ 32;
+  pattern = t .pattern;
+}
 
--- .. in numbers of 32 bits
+-- of grids that come in two parts, in numbers of 32 bits
 abbrev pub added : Tally → Tally → Tally
-added a b = ofGrids (wrapped (plus (tallyIn a) (tallyIn b))) (later (a .pattern) (b .pattern))
+added a b = wrappedGrids (plus a b)
 
 -- `value_scrub::both`: two tallies, added up.
 pub record Added (a b r : Tally) : Type 0 where
   pub answer : r ≡ added a b
-
--- there is room for each sum
-abbrev pub RoomyGrids : Tally → Tally → Type 0
-RoomyGrids a b = Small (plus (tallyIn a) (tallyIn b))
 
 -- ---- values
 

@@ -6,8 +6,8 @@
 ghost use mathlib.Core.Path.{_≡_};
 ghost use Prim.Native.Nat.{_*_, _%_, _≤_, _<_};
 ghost use lib.ListN.{length};
-ghost use Rattle.codes.specs.Steps.{later};
 ghost use Rattle.page.specs.Calls.{mostGrids};
+ghost use Rattle.page.specs.Steps.{later};
 ghost use Rattle.fields.specs.Fields.{gridsMost, blockBytes};
 ghost use Rattle.value_scrub.specs.Steps.{NoBlocks, Added, ScrubbedGrids, ScrubbedBlock, AnyGrids, AnyBlock, pageGrids};
 use block::Block;
@@ -58,6 +58,7 @@ pub fn both(here: Tally, there: Tally) -> Tally
     Tally {
         grids: std::num::wrapping_add_u32(here.grids, there.grids),
         clean: std::num::wrapping_add_u32(here.clean, there.clean),
+        blank: std::num::wrapping_add_u32(here.blank, there.blank),
         mended: std::num::wrapping_add_u32(here.mended, there.mended),
         lost: std::num::wrapping_add_u32(here.lost, there.lost),
         flips: std::num::wrapping_add_u32(here.flips, there.flips),

@@ -26,19 +26,22 @@ abbrev μ-loop : tie.MeasureT-loop
 
 loop-again : tie.Need-loop-again Inv-loop μ-loop
 loop-again c =
-    let l = c .before .before .before .before .before .before .before .loop in
-    let s = c .before .before .before .before .before .before .before .before .before .before in
+    let l = c .before .before .before .before .before .before .before .before .loop in
+    let s = c .before .before .before .before .before .before .before .before .before .before .before in
     let ns = now (s .args .numbers) in
     let ws = map codeword ns in
     let long = length-map ns codeword in
     let more : l .i < length ws = omega (arith, long) in
     let room : 8 * length ws ≤ length (now (s .args .bytes)) = omega (arith, long, s .pre) in
     let put = c .before .before .put-grid in
-    let rows = c .before .before .before .encode .ensures .0 .answer ∙ ap (digits 8 8) (sym (map-getD codeword ns (l .i) (omega arith))) in
-    let eight : length (c .before .before .before .encode .result .rows) ≡ 8 = ap length rows ∙ length-digits 8 8 (getD ws (l .i) 0) in
+    let grid = c .before .before .before .of-number in
+    let rows =
+    grid .ensures .answer
+    ∙ ap (digits 8 8) (c .before .before .before .before .encoded .ensures .answer ∙ sym (map-getD codeword ns (l .i) (omega arith))) in
+    let eight : length (grid .result .rows) ≡ 8 = ap length rows ∙ length-digits 8 8 (getD ws (l .i) 0) in
     let part = take (length (l .bytes) - 8 * l .i) (drop (8 * l .i) (l .bytes)) in
     let there =
-    copy-there (c .before .before .before .encode .result .rows) part (put .last .0) (omega (arith, length-part (8 * l .i) (l .bytes), room, eight)) (put .ensures) in
+    copy-there (grid .result .rows) part (put .last .0) (omega (arith, length-part (8 * l .i) (l .bytes), room, eight)) (put .ensures) in
     let turn = word-turn 8 ws (now (s .args .bytes)) (l .bytes) (l .i) (put .last .0) more room (l .inv .1) (there ∙ ap (λ b. laid b part) rows) in
     (omega arith, turn, ap length turn ∙ length-turn 8 ws (now (s .args .bytes)) (l .bytes) (l .i) (put .last .0) more room)
 
@@ -57,5 +60,5 @@ pub grids-spec : {M : Type 1} → statement M
 grids-spec =
     tie.close
     (tie.spec Inv-loop μ-loop (λ c. (omega arith, no-words 8 (map codeword (now (c .before .before .args .numbers))) _, refl)) (λ c. omega arith) (λ c. omega arith) (λ c. omega arith)
-    (λ c. search needs) (λ c. omega arith) (λ c. omega arith) (λ c κs. search needs) (λ c κs. search needs) (λ c. omega arith) (λ c. omega arith)
+    (λ c. search needs) (λ c. omega arith) (λ c. omega arith) (λ c κs. search needs) (λ c κs. search needs) (λ c κs. search needs) (λ c. omega arith) (λ c. omega arith)
     loop-again same-length returns)

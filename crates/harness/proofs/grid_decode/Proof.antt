@@ -10,15 +10,16 @@ use borrow.Author.Needs.{needs}
 use Rattle.words.specs.Bytes.{laid}
 use Rattle.words.proofs.Bytes.{laid-none, laid-all}
 use Rattle.words.proofs.Turns.{map-turn}
-use Rattle.codes.specs.Verdict.{verdict, scrubbed, patternOf}
+use Rattle.codes.specs.Verdict.{scrubbed, patternOf}
 use Rattle.grid_code.specs.Code.{gridCode}
+use Rattle.grid_code.specs.Verdict.{gridVerdict}
 use Rattle.grid.proofs.Numbers.{decoded-verdict, decoded-pattern, decoded-number}
 use Rattle.harness.specs.Exports.{packed, decodes, stays}
 use Rattle.harness.proofs.grid_decode.Statement.{statement}
 use Rattle.harness.proofs.grid_decode.Tie as tie
 
 abbrev shown : ℕ → ℕ
-shown w = packed (verdict gridCode w)
+shown w = packed (gridVerdict w)
 
 abbrev put-right : ℕ → ℕ
 put-right w = scrubbed gridCode w

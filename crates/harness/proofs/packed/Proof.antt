@@ -11,11 +11,15 @@ returns-2 : tie.Need-returns-2
 returns-2 c = sym (ap (λ v. packed (verdictOf v)) (c .before .verdict2 .given .1))
 
 returns-3 : tie.Need-returns-3
-returns-3 c =
+returns-3 c = sym (ap (λ v. packed (verdictOf v)) (c .before .verdict3 .given .1))
+
+returns-4 : tie.Need-returns-4
+returns-4 c =
     ap (λ (n : ℕ). n * 16777216) (c .number .ensures .answer) ∙ sym (ap (λ v. packed (verdictOf v)) (c .before .enum-told .given .1))
 
 pub packed-spec : {M : Type 1} → statement M
 packed-spec =
     tie.close
     (tie.spec (λ c. search needs) (λ c. search needs) (λ c. search needs) (λ c. search needs) (λ c. search needs) (λ c. search needs)
-    (λ c. search needs) (λ c. search needs) (λ c κs. search needs) (λ c. search needs) (λ c. search needs) (λ c. search needs) returns-2 returns-3)
+    (λ c. search needs) (λ c. search needs) (λ c. search needs) (λ c. search needs) (λ c. search needs) (λ c. search needs)
+    (λ c κs. search needs) (λ c. search needs) (λ c. search needs) (λ c. search needs) returns-2 returns-3 returns-4)

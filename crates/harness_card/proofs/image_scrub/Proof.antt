@@ -19,11 +19,11 @@ returns-2 c =
     let a = c .before .before .before .before .before .before .before .before .before .before .before .before .before .args in
     let s = c .before .before .before .before .before .before .before .before .scrub in
     let is = c .before .before .before .before .t .given in
-    let ten : length (now (a .tallies)) ≡ 10 = omega arith in
+    let eleven : length (now (a .tallies)) ≡ 11 = omega arith in
     let g = is .0 .0 .grids in
     let b = is .0 .0 .blocks in
-    scrubs ten (s .result) (s .ensures) (c .packed2 .ensures ∙ sym (ap scrubShown (is .1)))
-    (stored (g .grids ∷ g .clean ∷ g .mended ∷ g .lost ∷ g .flips ∷ b .blocks ∷ b .clean ∷ b .mended ∷ b .lost ∷ b .flips ∷ [])
+    scrubs eleven (s .result) (s .ensures) (c .packed2 .ensures ∙ sym (ap scrubShown (is .1)))
+    (stored (g .grids ∷ g .clean ∷ g .blank ∷ g .mended ∷ g .lost ∷ g .flips ∷ b .blocks ∷ b .clean ∷ b .mended ∷ b .lost ∷ b .flips ∷ [])
     (now (a .tallies)) (omega arith)
     ∙ sym (ap (λ r. tallied (means r) (now (a .tallies))) (is .1)))
     (sym (ap (λ r. patternShown (means r) (now (a .pattern))) (is .1)))
@@ -34,8 +34,8 @@ returns-3 c =
     let tallies = now (a .tallies) in
     let s = c .before .before .before .before .before .before .scrub in
     let why = c .before .before .why .given in
-    let ten : length tallies ≡ 10 = omega arith in
-    scrubs ten (s .result) (s .ensures) (c .refused .ensures ∙ sym (ap scrubShown (why .1)))
+    let eleven : length tallies ≡ 11 = omega arith in
+    scrubs eleven (s .result) (s .ensures) (c .refused .ensures ∙ sym (ap scrubShown (why .1)))
     (sym (ap (λ r. tallied (means r) tallies) (why .1))) (sym (ap (λ r. patternShown (means r) (now (a .pattern))) (why .1)))
 
 pub image-scrub-spec : {M : Type 1} → statement M
@@ -44,6 +44,6 @@ image-scrub-spec =
     (tie.spec (λ c κs. search needs) returns (λ c κs. search needs) (λ c. search needs) (λ c. search needs)
     (λ c. simp length-set (omega arith)) (λ c. simp length-set (omega arith)) (λ c. simp length-set (omega arith))
     (λ c. simp length-set (omega arith)) (λ c. simp length-set (omega arith)) (λ c. simp length-set (omega arith))
-    (λ c. simp length-set (omega arith)) (λ c. simp length-set (omega arith)) (λ c. simp length-set (omega arith)) (λ c κs. search needs)
+    (λ c. simp length-set (omega arith)) (λ c. simp length-set (omega arith)) (λ c. simp length-set (omega arith)) (λ c. simp length-set (omega arith)) (λ c κs. search needs)
     (λ c. search needs) (λ c κs. search needs) (λ c. search needs) (λ c. simp length-set (omega arith)) returns-2 (λ c. search needs)
     returns-3)

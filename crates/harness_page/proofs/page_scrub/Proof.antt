@@ -20,9 +20,9 @@ returns-2 c =
     let a = c .before .before .before .before .before .before .before .before .before .before .args in
     let s = c .before .before .before .before .before .scrub in
     let t = c .before .t .given .0 .0 in
-    let five : length (now (a .tally)) ≡ 5 = omega arith in
-    scrubs five (s .result) (s .ensures) (sym (ap (λ r. numberIn (means r)) (c .before .t .given .1)))
-    (stored (t .grids ∷ t .clean ∷ t .mended ∷ t .lost ∷ t .flips ∷ []) (now (a .tally)) (omega arith)
+    let six : length (now (a .tally)) ≡ 6 = omega arith in
+    scrubs six (s .result) (s .ensures) (sym (ap (λ r. numberIn (means r)) (c .before .t .given .1)))
+    (stored (t .grids ∷ t .clean ∷ t .blank ∷ t .mended ∷ t .lost ∷ t .flips ∷ []) (now (a .tally)) (omega arith)
     ∙ sym (ap (λ r. shown r (now (a .tally))) (c .before .t .given .1)))
     (sym (ap (λ r. patternShown r (now (a .pattern))) (c .before .t .given .1)))
 
@@ -31,13 +31,13 @@ returns-3 c =
     let at = c .before .before in
     let a = at .before .before .before .before .before .before .before .before .before .args in
     let s = at .before .before .before .before .scrub in
-    let five : length (now (a .tally)) ≡ 5 = omega arith in
-    scrubs five (s .result) (s .ensures) (c .number .ensures .answer ∙ sym (ap (λ r. numberIn (means r)) (at .why .given .1)))
+    let six : length (now (a .tally)) ≡ 6 = omega arith in
+    scrubs six (s .result) (s .ensures) (c .number .ensures .answer ∙ sym (ap (λ r. numberIn (means r)) (at .why .given .1)))
     (sym (ap (λ r. shown r (now (a .tally))) (at .why .given .1))) (sym (ap (λ r. patternShown r (now (a .pattern))) (at .why .given .1)))
 
 pub page-scrub-spec : {M : Type 1} → statement M
 page-scrub-spec =
     tie.close
     (tie.spec returns (λ c κs. search needs) (λ c. search needs) (λ c. search needs) (λ c. simp length-set (omega arith))
-    (λ c. simp length-set (omega arith)) (λ c. simp length-set (omega arith)) (λ c. simp length-set (omega arith)) (λ c. search needs)
+    (λ c. simp length-set (omega arith)) (λ c. simp length-set (omega arith)) (λ c. simp length-set (omega arith)) (λ c. simp length-set (omega arith)) (λ c. search needs)
     (λ c κs. search needs) (λ c. search needs) (λ c. search needs) returns-2 (λ c. search needs) returns-3)

@@ -10,9 +10,9 @@ use denote.Ref.{now}
 use borrow.Author.Needs.{needs}
 use Rattle.words.proofs.Lists.{partly, partly-none, partly-all}
 use Rattle.codes.specs.Verdict.{scrubbed}
-use Rattle.codes.specs.Tally.{sumBy, lastFrom}
+use Rattle.codes.specs.Tally.{sumBy}
 use Rattle.grid_code.specs.Code.{gridCode}
-use Rattle.page.specs.Calls.{gridTally}
+use Rattle.page.specs.Tally.{lastFrom, gridTally}
 use Rattle.page.proofs.Laws.{turn-page, turn-tally, turn-roomy}
 use Rattle.page.proofs.each.Statement.{statement}
 use Rattle.page.proofs.each.Tie as tie

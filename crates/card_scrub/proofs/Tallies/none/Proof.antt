@@ -1,6 +1,7 @@
 -- `Tallies::none` meets its contract. Assumes nothing.
 use borrow.Author.Needs.{needs}
-use Rattle.codes.specs.Tally.{sumBy, lastFrom}
+use Rattle.codes.specs.Tally.{sumBy}
+use Rattle.page.specs.Tally.{lastFrom}
 use Rattle.card_scrub.proofs.Tallies.none.Statement.{statement}
 use Rattle.card_scrub.proofs.Tallies.none.Tie as tie
 

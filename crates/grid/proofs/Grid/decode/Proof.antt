@@ -1,10 +1,10 @@
--- `grid::Grid::decode` meets its contract: a clean grid is its own codeword. Assumes nothing.
+-- `grid::Grid::decode` meets its contract: a codeword is its own nearest. Assumes nothing.
 use mathlib.Core.Path.{subst}
 use mathlib.Core.List.{List}
 use Prim.Native.Nat.{ℕ}
 use borrow.Author.Needs.{needs}
 use Rattle.grid.specs.Calls.{Judged}
-use Rattle.grid.proofs.Verdicts.{is-clean}
+use Rattle.grid.proofs.Verdicts.{is-codeword}
 use Rattle.grid.proofs.Grid.decode.Statement.{statement}
 use Rattle.grid.proofs.Grid.decode.Tie as tie
 
@@ -14,7 +14,7 @@ returns c =
     let rows : List ℕ = s .before .before .args .self .rows in
     let number = c .before .number in
     c .answered .ensures
-    (is-clean rows (number .result) (number .ensures .answer) (subst (Judged rows) (s .if1 .taken) (s .before .is-clean .ensures)))
+    (is-codeword rows (number .result) (number .ensures .answer) (subst (Judged rows) (s .if1 .taken) (s .before .is-codeword .ensures)))
 
 pub decode-spec : {M : Type 1} → statement M
 decode-spec =

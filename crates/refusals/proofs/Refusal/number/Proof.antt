@@ -13,6 +13,6 @@ number-of e = record { answer = sym (ap (λ why. numberOf (numbered why)) e) }
 pub number-spec : {M : Type 1} → statement M
 number-spec =
     tie.close
-    (tie.spec (λ c. search needs) (λ c. search needs) (λ c. search needs) (λ c. search needs) (λ c. search needs)
+    (tie.spec (λ c. search needs) (λ c. search needs) (λ c. search needs) (λ c. search needs) (λ c. search needs) (λ c. search needs)
     (λ c. number-of (c .enum-told .given .1)) (λ c. number-of (c .enum-told2 .given .1)) (λ c. number-of (c .enum-told3 .given .1))
-    (λ c. number-of (c .enum-told4 .given .1)) (λ c. number-of (c .enum-told5 .given .1)))
+    (λ c. number-of (c .enum-told4 .given .1)) (λ c. number-of (c .enum-told5 .given .1)) (λ c. number-of (c .enum-told6 .given .1)))

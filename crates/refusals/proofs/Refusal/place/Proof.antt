@@ -12,4 +12,4 @@ pub place-spec : {M : Type 1} → statement M
 place-spec =
     tie.close
     (tie.spec (λ c. search needs) (λ c. search needs) (λ c. search needs) (λ c. search needs) (λ c. search needs) (λ c. search needs)
-    (λ c. search needs) (λ c. search needs) broken (λ c. search needs))
+    (λ c. search needs) (λ c. search needs) (λ c. search needs) broken (λ c. search needs) (λ c. search needs))
