@@ -137,7 +137,6 @@ pub record ReadPromises : Type 0 where
   -- A call that gives nothing writes nothing.
   pub refused : (image title ns flips title′ ns′ flips′ : List ℕ) (r : ReadAnswer) → Read image title ns flips r title′ ns′ flips′
       → ((v : Lengths) → readMeans r ≢ gives v) → (title′ ≡ title) × (ns′ ≡ ns) × (flips′ ≡ flips)
-
   -- A blank grid is shown as 65,535, with 128 more than its flips, and no other grid is.
   pub blank-shown : (w n : ℕ) → gridVerdict w ≡ blank n → (dataOfGrid w ≡ erased) × (flipsOfGrid w ≡ n + 128)
   pub blank-only : (w : ℕ) → dataOfGrid w ≡ erased → isBlank (gridVerdict w) ≡ 1

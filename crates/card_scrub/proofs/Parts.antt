@@ -2,6 +2,7 @@
 use mathlib.Core.Path.{_≡_, refl, sym, ap, ap₂, _∙_}
 use mathlib.Core.List.{List, [], _∷_, _++_, map, append-assoc, append-nil}
 use Prim.Native.Nat.{ℕ, _+_, _-_, _*_, _/_, _%_, _^_, _≤_}
+use native.Mathlib.Nat.{mod-eq-of-lt}
 use native.Mathlib.Omega.{arith}
 use lib.Dec.{lit<}
 use lib.ListN.{length, take, drop, length-append, length-map, length-drop, drop-of-length-le}
@@ -34,11 +35,11 @@ use Rattle.image.proofs.Checking.{Begins}
 use Rattle.values.specs.Steps.{gridsOf}
 use Rattle.value_scrub.specs.declared.Blocks.{Blocks}
 use Rattle.value_scrub.specs.Tally.{ofBlocks, tallyIn as blocksTally, blockTally}
-use Rattle.value_scrub.specs.Steps.{wrapped, added, NoBlocks, ScrubbedGrids, ScrubbedBlock}
-use Rattle.value_scrub.proofs.Scrubs.{whole-sum, whole-grids}
+use Rattle.value_scrub.specs.Steps.{added, NoBlocks, ScrubbedGrids, ScrubbedBlock}
+use Rattle.value_scrub.proofs.Scrubs.{whole-grids}
 use Rattle.card_scrub.specs.declared.Tallies.{Tallies}
 use Rattle.card_scrub.specs.Calls.{scrubbedPart, scrubbedCard, talliesOf}
-use Rattle.card_scrub.specs.Steps.{summed, ScrubbedFields, Passed}
+use Rattle.card_scrub.specs.Steps.{wrapped, summed, ScrubbedFields, Passed}
 
 -- ---- the image from a field on, with the value v in place of its own, and e in place of what is behind it
 
@@ -77,6 +78,16 @@ countedIn (block w) = record { grids = gridTally []; blocks = blockTally (w ∷ 
 abbrev Few : Part → Type 0
 Few (grids ws) = length ws ≤ 4096
 Few (block w) = Unit {0}
+
+-- where there is room for each number, nothing wraps
+whole-sum : (t : Counted) → codes.Small t → wrapped t ≡ t
+whole-sum t room = λ i. record {
+  words = mod-eq-of-lt (room .words) i;
+  clean = mod-eq-of-lt (room .clean) i;
+  mended = mod-eq-of-lt (room .mended) i;
+  lost = mod-eq-of-lt (room .lost) i;
+  flips = mod-eq-of-lt (room .flips) i;
+}
 
 sum-of-grids : (ws vs : List ℕ) → length ws ≤ 4096 → length vs ≤ 4096
     → added (gridTally ws) (gridTally vs) ≡ gridTally (ws ++ vs)

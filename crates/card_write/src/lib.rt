@@ -41,7 +41,10 @@ fn grids(bytes: &mut [u8], numbers: &[u16])
     let mut i: usize = 0;
     while i < numbers.len() {
         let at = 8 * i;
-        values::put_grid(&mut bytes[at..], Grid::of_number(grid_code::encoded(numbers[i])));
+        values::put_grid(
+            &mut bytes[at..],
+            Grid::of_number(grid_code::encoded(numbers[i])),
+        );
         i += 1;
     }
 }

@@ -16,8 +16,7 @@ use Rattle.words.proofs.Digits.{length-digits, digits-joined}
 use Rattle.words.proofs.Bytes.{length-words, words-two, bytes-append, bytes-words, words-below}
 use Rattle.refusals.specs.declared.Refusal.the-variants.{Length}
 use Rattle.codes.specs.Verdict.{Verdict, clean, mended, lost, verdict, scrubbed}
-use Rattle.codes.specs.Tally.{sumBy, tallyOfOne, Tally as Counted}
-use Rattle.codes.specs.Steps as codes
+use Rattle.codes.specs.Tally.{sumBy, tallyOfOne}
 use Rattle.codes.proofs.Tally.{unflipped, tallies}
 use Rattle.grid_code.specs.Code.{gridCode}
 use Rattle.grid_code.specs.Verdict.{flipsOf}
@@ -41,7 +40,7 @@ use Rattle.values.specs.Steps.{gridsOf, Put}
 use Rattle.values.proofs.Fits.{put-there}
 use Rattle.value_scrub.specs.declared.Blocks.{Blocks}
 use Rattle.value_scrub.specs.Tally.{ofBlocks, blockTally}
-use Rattle.value_scrub.specs.Steps.{NoBlocks, wrapped, wrappedGrids, Added, ScrubbedGrids, ScrubbedBlock, AnyGrids, AnyBlock}
+use Rattle.value_scrub.specs.Steps.{NoBlocks, wrappedGrids, Added, ScrubbedGrids, ScrubbedBlock, AnyGrids, AnyBlock}
 
 -- ---- by way of a page
 
@@ -107,17 +106,7 @@ pub no-grids : (r : Tally) → NoGrids r → ScrubbedGrids [] r []
 unfolding sumBy lastFrom wordsIn bytesOf
 no-grids r h = record { answer = h .answer; after = refl }
 
--- where there is room for each number, nothing wraps: of blocks, ..
-pub whole-sum : (t : Counted) → codes.Small t → wrapped t ≡ t
-whole-sum t room = λ i. record {
-  words = mod-eq-of-lt (room .words) i;
-  clean = mod-eq-of-lt (room .clean) i;
-  mended = mod-eq-of-lt (room .mended) i;
-  lost = mod-eq-of-lt (room .lost) i;
-  flips = mod-eq-of-lt (room .flips) i;
-}
-
--- .. and of grids
+-- where there is room for each number, nothing wraps
 pub whole-grids : (t : Tally) → Small t → wrappedGrids t ≡ t
 whole-grids t room = λ i. record {
   grids = mod-eq-of-lt (room .grids) i;

@@ -8,7 +8,6 @@ use Rattle.words.specs.Word.{choose}
 use Rattle.words.specs.Digits.{digits, joined}
 use Rattle.words.specs.Bytes.{wordsIn, bytesOf}
 use Rattle.codes.specs.Verdict.{scrubbed}
-use Rattle.codes.specs.Tally.{Tally as Counted}
 use Rattle.grid_code.specs.Code.{gridCode}
 use Rattle.page.specs.declared.Tally.{Tally}
 use Rattle.page.specs.Tally.{gridTally}
@@ -25,17 +24,7 @@ use Rattle.value_scrub.specs.Tally.{blockTally}
 pub record NoBlocks (r : Blocks) : Type 0 where
   pub answer : r ≡ record { blocks = 0; clean = 0; mended = 0; lost = 0; flips = 0 }
 
--- a tally of blocks in numbers of 32 bits, which start again from 0
-abbrev pub wrapped : Counted → Counted
-wrapped t = record {
-  words = t .words % 2 ^ 32;
-  clean = t .clean % 2 ^ 32;
-  mended = t .mended % 2 ^ 32;
-  lost = t .lost % 2 ^ 32;
-  flips = t .flips % 2 ^ 32;
-}
-
--- the same of grids; the pattern stays
+-- a tally of grids in numbers of 32 bits, which start again from 0; the pattern stays
 abbrev pub wrappedGrids : Tally → Tally
 wrappedGrids t = record {
   grids = t .grids % 2 ^ 32;

@@ -29,7 +29,7 @@ loop-again c =
     let more : l .i < length ns = omega arith in (
       omega arith,
       ⊎-elim (λ w. w .1 ∙ sym (erased-here ns (l .i) more (w .0 .taken))) (λ w. w .1 ∙ l .inv .1 ∙ sym (stored-here ns (l .i) more (w .0 .left)))
-      (c .if1 .came),
+          (c .if1 .came),
     )
 
 returns : tie.Need-returns Inv-loop μ-loop
