@@ -15,7 +15,8 @@
 // than to the grid of any other value.
 //
 // The decoder puts each row right, sets aside those that it cannot be sure of, and lets the columns decide (crates grid_rows and
-// grid_trials). What it hands out it has counted: a codeword within seven places. The places that differ are the pattern of the flips.
+// grid_trials). What it hands out it has counted: a codeword within seven places. The places that differ are the pattern of the flips. All
+// ones is a codeword, too, and Flash comes erased to it: such a grid is blank, it has no data, and 65,535 is not encoded.
 //
 // The crate grid_code has the parities and what is proved of the code, specs/Calls.antt what each call promises, and specs/Promises.antt
 // what is proved of the calls. As a number a grid has row r in byte r, lowest byte first, and place c of a row in bit c.

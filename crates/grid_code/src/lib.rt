@@ -1,7 +1,8 @@
 // The code of the grid, over numbers: its data places, as one number with row r in byte r, and the grid that has them.
 //
-// specs/Equations.antt has the parities of docs/FORMAT.md, specs/Code.antt their one solution for each data value, and specs/Promises.antt
-// what is proved of the code. The type and its calls are in the crate grid; the functions here are steps of them (specs/Steps.antt).
+// specs/Equations.antt has the parities of docs/FORMAT.md, specs/Code.antt their one solution for each data value, specs/Verdict.antt the
+// verdict on a grid, in which an erased one is blank, and specs/Promises.antt what is proved of the code. The type and its calls are in the
+// crate grid; the functions here are steps of them (specs/Steps.antt).
 ghost use mathlib.Core.Path.{_≡_};
 ghost use Prim.Native.Nat.{ℕ, _/_, _%_, _^_, _<_};
 ghost use Rattle.grid_code.specs.Equations.{dataOf};
