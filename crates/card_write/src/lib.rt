@@ -72,8 +72,8 @@ fn lay(title: &[u8], numbers: &[u16], image: &mut [u8])
     lay_grids(numbers, &mut image[end..]);
 }
 
-// Whether none of the numbers is 65,535, which is not stored: its grid is an erased one. All are looked at, since a loop without a way out
-// is one that the compiler takes eight numbers at a time.
+// Whether none of the numbers is 65,535, which is not stored: its grid is an erased one. All are looked at: a loop that does not end early
+// the compiler takes eight numbers at a time.
 fn none_erased(numbers: &[u16]) -> bool
     ensures { λ r. ⌜ r ≡ noneErased (now (numbers .entry)) ⌝ }
 {

@@ -28,7 +28,7 @@ named (codes.clean d) = choose (eqb d erased) (blank 0) (clean d)
 named (codes.mended d n) = choose (eqb d erased) (blank n) (mended d n)
 named codes.lost = lost
 
--- v is the verdict on the grid w: what its verdict by the code is called
+-- v is the verdict on the grid w: w has a verdict by the code, and v is what that is called
 abbrev pub IsGridVerdict : ℕ → Verdict → Type 0
 IsGridVerdict w v = (u : codes.Verdict) × codes.IsVerdict gridCode w u × (v ≡ named u)
 

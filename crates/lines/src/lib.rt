@@ -132,8 +132,8 @@ fn card_lines(text: &mut [u8], title: &[u8], tallies: Tallies) -> usize
     blocks_line(text, at, blocks)
 }
 
-// Scrubs an image as `card::scrub` does, and lays the lines of its answer over the front of `text`. The title is read behind the scrub,
-// which leaves it as it was: of an image that is refused no title may stand in the text.
+// Scrubs an image as `card::scrub` does, and lays the lines of its answer over the front of `text`. The title is read after the scrub, which
+// leaves it as it was: only then is it known that there is one.
 pub fn scrub(image: &mut [u8], text: &mut [u8]) -> LinesAnswer
     ensures { λ r. ⌜ Printed (now (image .entry)) (now (text .entry)) r (now (image .exit)) (now (text .exit)) ⌝ }
 {
