@@ -108,7 +108,7 @@ unfolding lastFrom
 last-append before [] ys = refl
 last-append before (x ∷ xs) ys = last-append (passedOn (gridVerdict x) (patternOf gridCode x) before) xs ys
 
--- one word more
+-- one grid more
 pub last-step : (ws : List ℕ) (i : ℕ) → i < length ws
     → lastPattern (take (i + 1) ws) ≡ passedOn (gridVerdict (getD ws i 0)) (patternOf gridCode (getD ws i 0)) (lastPattern (take i ws))
 unfolding lastFrom
