@@ -2,8 +2,8 @@
    hex, numbers decimal, and `-` is the empty slice or list.
 
      genc N                                 HEX16
-     gdec HEX16                             clean|mended|lost data D flips N repaired HEX16 pattern HEX16, or
-                                            blank flips N repaired HEX16 pattern HEX16
+     gdec HEX16                             clean|mended|lost data D flips N repaired HEX16 pattern HEX16 trials N, or
+                                            blank flips N repaired HEX16 pattern HEX16 trials N
      page HEX16 ..                          G C B M L F | pattern HEX16 | HEX16 ..
      benc HEX4 ..                           HEX4 ..
      bscrub HEX4 ..                         clean|mended flips N HEX4 .. pattern HEX4 ..
@@ -74,7 +74,8 @@ static int gdec(char **words, uint64_t n)
     if (n != 1 || !read_hex(words[0], 16, &read))
         return 0;
     grid_decode(&read, 1, &verdict, 1, &repaired, 1, &pattern, 1);
-    unsigned data = verdict & LARGEST, flips = verdict >> 16 & 255, number = verdict >> 24 & 255, blank = (unsigned)(verdict >> 32);
+    unsigned data = verdict & LARGEST, flips = verdict >> 16 & 255, number = verdict >> 24 & 15, trials = verdict >> 28 & 15;
+    unsigned blank = (unsigned)(verdict >> 32);
     if (blank)
         printf("blank ");
     else
@@ -83,6 +84,7 @@ static int gdec(char **words, uint64_t n)
     print_grids(&repaired, 1);
     printf(" ");
     print_pattern(pattern);
+    printf(" trials %u", trials);
     return 1;
 }
 

@@ -10,6 +10,8 @@
      refused  if it is lost, stays as it was read, and the pattern is zero;
      wrong    in all other cases, among which are blank where a number was written, and a number where the grid was erased.
 
+   For a grid the last column, `trials 2`, is how many words took two trials.
+
    The status is 1 if the two answers to a word differ in anything, if up to the radius a word is not undone, or if a grid with 8 flips is
    not refused; the first such word is shown with both answers. What becomes of more flips is shown as it is: nobody can tell them from
    fewer flips of another codeword.
@@ -41,7 +43,7 @@ static const union bits none = {.bytes = {0}};
 /* a row of the table; `all` is how many words it will have */
 struct row {
     unsigned flips;
-    uint64_t all, words, undone, refused, wrong;
+    uint64_t all, words, undone, refused, wrong, two;
 };
 
 /* a code's campaign, with the first word that fails */
@@ -113,8 +115,9 @@ static void judge(struct campaign *c, struct row *r, const struct damaged *d, st
     uint64_t at = c->agree.compared;
     flip(&library, code->flip_library);
     flip(&second, code->flip_second);
+    uint64_t trials = library.returned & code->trials;
     int agree = says(code, &library, second.returned, &second.left, &second.pattern);
-    int undone = says(code, &library, d->undone, &d->written, &d->flips);
+    int undone = says(code, &library, d->undone | trials, &d->written, &d->flips);
     int refused = says(code, &library, code->lost, &d->read, &none);
     int kept = r->flips <= code->undone ? undone : r->flips <= code->refused ? refused : 1;
     if (!(agree && kept) && c->agree.differ + c->promise.differ == 0) {
@@ -129,6 +132,7 @@ static void judge(struct campaign *c, struct row *r, const struct damaged *d, st
     r->undone += undone;
     r->refused += refused;
     r->wrong += !undone && !refused;
+    r->two += code->trials != 0 && trials == code->two;
 }
 
 /* on a terminal a line that is rewritten, and taken away for the row of the table; elsewhere a line where a row is done */
@@ -204,13 +208,17 @@ static int report_campaign(struct campaign *c)
 static int run(const struct code *code)
 {
     struct campaign c = {.code = code};
-    printf("%s, seed %llu\nflips       words      undone     refused       wrong\n", code->name, (unsigned long long)seed);
+    const char *last = code->trials != 0 ? "    trials 2" : "";
+    printf("%s, seed %llu\nflips       words      undone     refused       wrong%s\n", code->name, (unsigned long long)seed, last);
     for (unsigned k = 0; k < code->rows; k++) {
         int every = code->flips[k] <= code->every;
         struct row r = {.flips = code->flips[k], .all = every ? sets(code->places, code->flips[k]) : count};
         fill_row(&c, &r, every);
-        printf("%5u %11llu %11llu %11llu %11llu   %s\n", r.flips, (unsigned long long)r.words, (unsigned long long)r.undone,
-               (unsigned long long)r.refused, (unsigned long long)r.wrong, every ? "every set of places" : "drawn");
+        printf("%5u %11llu %11llu %11llu %11llu", r.flips, (unsigned long long)r.words, (unsigned long long)r.undone,
+               (unsigned long long)r.refused, (unsigned long long)r.wrong);
+        if (code->trials != 0)
+            printf(" %11llu", (unsigned long long)r.two);
+        printf("   %s\n", every ? "every set of places" : "drawn");
         fflush(0);
     }
     return report_campaign(&c);

@@ -19,7 +19,7 @@ union bits {
     uint8_t bytes[2 * WORDS];
 };
 
-/* a word as it was written, its flips and the word as it is read, and what is returned for it if its flips are undone */
+/* a word as it was written, its flips and the word as it is read, and what is returned for it if its flips are undone, but for the trials */
 struct damaged {
     union bits written, flips, read;
     uint64_t undone;
@@ -32,19 +32,19 @@ struct said {
 };
 
 /* Each row of its table is for a number of flips. Up to `every` flips the row has every set of places. Up to `undone` flips all have to be
-   undone, and from there up to `refused` refused. Of what is flipped on a side the first number is for what is returned and left, and the
-   third for the pattern. */
+   undone, and from there up to `refused` refused. The trials are these bits of what is returned, none for a block; after two they are `two`.
+   Of what is flipped on a side the first number is for what is returned and left, and the third for the pattern. */
 struct code {
     const char *name, *promise;
     const unsigned *flips;
     unsigned rows, places, every, undone, refused;
-    uint64_t lost, *flip_library, *flip_second;
+    uint64_t lost, trials, two, *flip_library, *flip_second;
     uint64_t (*write)(union bits *, unsigned flips);
     void (*answer)(const struct damaged *, uint64_t n, struct said *library, struct said *second);
     void (*print)(const union bits *);
 };
 
-/* draws data and writes it; what is returned if so many flips are undone */
+/* draws data and writes it; what is returned, but for the trials, if so many flips are undone */
 static uint64_t write_grid(union bits *written, unsigned flips)
 {
     uint16_t data = draw_number();
@@ -116,7 +116,9 @@ static const struct code grid = {
     .every = 3,
     .undone = 7,
     .refused = 8,
-    .lost = 1 << 24,
+    .lost = 1 << 24 | 2 << 28,
+    .trials = (uint64_t)15 << 28,
+    .two = 2 << 28,
     .flip_library = &flip_library[0],
     .flip_second = &flip_second[0],
     .write = write_grid,

@@ -5,8 +5,9 @@
 #include "forms.h"
 #include "library.h"
 #include "plain.h"
+#include "trials.h"
 
-enum { VALUES = 65536, RADIUS = 7, SLICE = 1000, MANY = 20000, SOME = 2000 };
+enum { VALUES = 65536, RADIUS = 7, SLICE = 1000, MANY = 20000, SOME = 2000, FEW = 50 };
 
 static struct test plain = {.name = "the plain version's decode, the same words"};
 
@@ -37,22 +38,26 @@ static struct numbers flipped(struct numbers a, uint64_t flips[FLIP_WORDS])
     return a;
 }
 
-/* for where whoever made a word does not know its pattern; none is that, since it has seven ones at most */
+/* for where whoever made a word does not know its flips; as flips these are too many to tell anything */
 static const uint64_t NOT_KNOWN = UINT64_MAX;
 
-/* what is known of an answer by its pattern: that itself, and all the rest if it makes the word the erased grid */
-static void compare_known(struct test *t, struct numbers library, uint64_t read, uint64_t pattern)
+/* What is known of an answer by the flips of the codeword, eight at most: the pattern, which is empty if there are eight, and the trials;
+   and all the rest if it is the erased grid that was flipped, and not lost. */
+static void compare_known(struct test *t, struct numbers library, uint64_t read, uint64_t flips)
 {
-    if (pattern == NOT_KNOWN)
+    unsigned n = second_distance(flips, 0);
+    if (n > RADIUS + 1)
         return;
+    uint64_t pattern = n <= RADIUS ? flips : 0;
     compare(t, library.at[2], pattern, read);
+    compare(t, library.at[0] >> 28 & 15, trials_of(flips), read);
     if ((read ^ pattern) == ERASED_GRID) {
-        struct answer blank = {.blank = 1, .flips = second_distance(pattern, 0), .repaired = ERASED_GRID, .pattern = pattern};
+        struct answer blank = {.blank = 1, .flips = n, .trials = trials_of(flips), .repaired = ERASED_GRID, .pattern = pattern};
         compare_numbers(t, library, numbers_of(blank), read);
     }
 }
 
-/* the words that wait until there is a slice of them, and what is known of their patterns */
+/* the words that wait until there is a slice of them, and what is known of their flips */
 static uint64_t waiting[SLICE], known[SLICE], waiting_count;
 
 static void decode_waiting(struct test *t)
@@ -71,19 +76,17 @@ static void decode_waiting(struct test *t)
     waiting_count = 0;
 }
 
-static void decode(struct test *t, uint64_t read, uint64_t pattern)
+static void decode(struct test *t, uint64_t read, uint64_t flips)
 {
     waiting[waiting_count] = read;
-    known[waiting_count++] = pattern;
+    known[waiting_count++] = flips;
     if (waiting_count == SLICE)
         decode_waiting(t);
 }
 
-/* up to seven flips of a codeword are the pattern, and eight are lost */
 static void decode_flipped(struct test *t, uint64_t codeword, uint64_t flips)
 {
-    unsigned n = second_distance(flips, 0);
-    decode(t, codeword ^ flips, n <= RADIUS ? flips : n == RADIUS + 1 ? 0 : NOT_KNOWN);
+    decode(t, codeword ^ flips, flips);
 }
 
 static void finish(struct test *t)
@@ -113,14 +116,25 @@ static void worked_words(void)
         uint64_t read;
         struct answer answer;
     } worked[] = {
-        {0x000000B0000000B1, {.data = 0, .flips = 7, .repaired = 0, .pattern = 0x000000B0000000B1}},
-        {0x000000B1000000B1, {.number = 1, .repaired = 0x000000B1000000B1, .pattern = 0}},
-        {0x000001B1000000B1, {.data = 1, .flips = 7, .repaired = 0xB100B1B1000000B1, .pattern = 0xB100B00000000000}},
-        {0xFFFFFFFFFFFFFFFF, {.blank = 1, .flips = 0, .repaired = 0xFFFFFFFFFFFFFFFF, .pattern = 0}},
-        {0xFFFFFFFFFFFFFFFE, {.blank = 1, .flips = 1, .repaired = 0xFFFFFFFFFFFFFFFF, .pattern = 1}},
-        {0xFFFFFF4FFFFFFF4E, {.blank = 1, .flips = 7, .repaired = 0xFFFFFFFFFFFFFFFF, .pattern = 0x000000B0000000B1}},
-        {0xFFFFFF4EFFFFFF4E, {.number = 1, .repaired = 0xFFFFFF4EFFFFFF4E, .pattern = 0}},
-        {0xFFFFFE4EFFFFFF4E, {.data = 65534, .flips = 7, .repaired = 0x4EFF4E4EFFFFFF4E, .pattern = 0xB100B00000000000}},
+        {0x0000000000000000, {.data = 0, .flips = 0, .trials = 1, .repaired = 0, .pattern = 0}},
+        {0x000000B0000000B1, {.data = 0, .flips = 7, .trials = 2, .repaired = 0, .pattern = 0x000000B0000000B1}},
+        {0x000000B1000000B1, {.number = 1, .trials = 2, .repaired = 0x000000B1000000B1, .pattern = 0}},
+        {0x000001B1000000B1, {.data = 1, .flips = 7, .trials = 2, .repaired = 0xB100B1B1000000B1, .pattern = 0xB100B00000000000}},
+        {0xFFFFFFFFFFFFFFFF, {.blank = 1, .flips = 0, .trials = 1, .repaired = 0xFFFFFFFFFFFFFFFF, .pattern = 0}},
+        {0xFFFFFFFFFFFFFFFE, {.blank = 1, .flips = 1, .trials = 1, .repaired = 0xFFFFFFFFFFFFFFFF, .pattern = 1}},
+        {0xFFFFFF4FFFFFFF4E, {.blank = 1, .flips = 7, .trials = 2, .repaired = 0xFFFFFFFFFFFFFFFF, .pattern = 0x000000B0000000B1}},
+        {0xFFFFFF4EFFFFFF4E, {.number = 1, .trials = 2, .repaired = 0xFFFFFF4EFFFFFF4E, .pattern = 0}},
+        {0xFFFFFE4EFFFFFF4E, {.data = 65534, .flips = 7, .trials = 2, .repaired = 0x4EFF4E4EFFFFFF4E, .pattern = 0xB100B00000000000}},
+        /* 2w + s is 3: three rows set aside; one, and a wrong row with three flips, with a row codeword, with five flips */
+        {0x0000000000030303, {.data = 0, .flips = 6, .trials = 1, .repaired = 0, .pattern = 0x0000000000030303}},
+        {0x0000000000000703, {.data = 0, .flips = 5, .trials = 1, .repaired = 0, .pattern = 0x0000000000000703}},
+        {0x030000000000B100, {.data = 0, .flips = 6, .trials = 1, .repaired = 0, .pattern = 0x030000000000B100}},
+        {0x1F00000000000300, {.data = 0, .flips = 7, .trials = 1, .repaired = 0, .pattern = 0x1F00000000000300}},
+        /* it is 4: two wrong rows, with three flips each, with a row codeword in one; one, and two rows set aside */
+        {0x0000000000000768, {.data = 0, .flips = 6, .trials = 2, .repaired = 0, .pattern = 0x0000000000000768}},
+        {0x3100000000000031, {.data = 0, .flips = 6, .trials = 2, .repaired = 0, .pattern = 0x3100000000000031}},
+        {0x00000000000007E8, {.data = 0, .flips = 7, .trials = 2, .repaired = 0, .pattern = 0x00000000000007E8}},
+        {0x0300000003000007, {.data = 0, .flips = 7, .trials = 2, .repaired = 0, .pattern = 0x0300000003000007}},
     };
     struct test t = {.name = "decode, the worked words"};
     for (unsigned k = 0; k < sizeof worked / sizeof *worked; k++) {
@@ -146,13 +160,14 @@ static void read_codewords(void)
     }
 }
 
-/* a codeword is at 0 places from itself, so its answer is known without looking at the others: clean, but for the last, which is blank */
+/* a codeword is at 0 places from itself, so its answer is known without looking at the others: clean, but for the last, which is blank; no
+   row is to be repaired, so it is the candidate of trial one */
 static void compare_codewords(struct test *t)
 {
     for (uint32_t d = 0; d < VALUES; d++) {
         struct numbers found = {{clean.verdicts[d], clean.repaired[d], clean.patterns[d]}};
-        struct numbers known = {{d == ERASED_NUMBER ? (uint64_t)1 << 32 : d, clean.read[d], 0}};
-        compare_numbers(t, found, known, clean.read[d]);
+        struct answer known = {.blank = d == ERASED_NUMBER, .data = d == ERASED_NUMBER ? 0 : d, .trials = 1, .repaired = clean.read[d]};
+        compare_numbers(t, found, numbers_of(known), clean.read[d]);
     }
 }
 
@@ -236,7 +251,7 @@ static void between(struct test *t, uint64_t from, uint64_t to)
         uint64_t read = from ^ draw_places(from ^ to, flips);
         compare(t, second_distance(read, from), flips, read);
         compare(t, second_distance(read, to), 16 - flips, read);
-        decode(t, read, flips == 7 ? read ^ from : flips == 8 ? 0 : read ^ to);
+        decode(t, read, flips <= 8 ? read ^ from : read ^ to);
     }
 }
 
@@ -260,6 +275,144 @@ static void half_way(void)
     finish(&erased);
 }
 
+/* every other time the erased grid */
+static uint64_t draw_codeword(void)
+{
+    return draw() % 2 == 0 ? ERASED_GRID : second_grid(draw_number());
+}
+
+static void one_row(void)
+{
+    struct test t = {.name = "decode, every set of flips in one row"};
+    for (unsigned k = 8; k < 8 * 256; k++)
+        decode_flipped(&t, draw_codeword(), (uint64_t)(k / 8) << 8 * (k % 8));
+    finish(&t);
+}
+
+/* Two wrong rows: these flips in one, and in the other, for each of its patterns, three flips, or a row codeword of four ones. Three and
+   three are taken once for two rows. No second program is asked: the answer is what was written, after two trials. How many answers say so
+   is counted, for six flips and for seven. */
+static void two_wrong_rows(struct test *t, unsigned row, unsigned flips, unsigned other, uint64_t counted[2])
+{
+    uint64_t read[256], patterns[256], library[NUMBERS][256];
+    uint16_t data = draw_number();
+    unsigned n = 0;
+    for (unsigned x = 0; x < 256; x++)
+        if ((second_distance(x, 0) == 3 && row < other) || (second_distance(x, 0) == 4 && is_row_codeword(x))) {
+            patterns[n] = (uint64_t)flips << 8 * row | (uint64_t)x << 8 * other;
+            read[n] = second_grid(data) ^ patterns[n];
+            n++;
+        }
+    grid_decode(read, n, library[0], n, library[1], n, library[2], n);
+    for (unsigned k = 0; k < n; k++) {
+        unsigned seven = second_distance(patterns[k], 0) == 7;
+        struct answer written = {.data = data, .flips = 6 + seven, .trials = 2, .repaired = second_grid(data), .pattern = patterns[k]};
+        compare_numbers(t, (struct numbers){{library[0][k], library[1][k], library[2][k]}}, numbers_of(written), read[k]);
+        counted[seven] += (library[0][k] >> 28 & 15) == 2;
+    }
+}
+
+/* Of all patterns of six flips those that take two trials have three in each of two rows: 28 pairs of rows, and 56 patterns in each. Of
+   seven flips there are more; those with a row codeword are 56 ordered pairs of rows, 56 patterns and 14 row codewords. */
+static void every_two_wrong_rows(void)
+{
+    struct test t = {.name = "decode, every three flips in a row beside three or a row codeword in another"};
+    uint64_t counted[2] = {0, 0};
+    for (unsigned k = 0; k < 64; k++)
+        for (unsigned flips = 0; k / 8 != k % 8 && flips < 256; flips++)
+            if (second_distance(flips, 0) == 3)
+                two_wrong_rows(&t, k / 8, flips, k % 8, counted);
+    compare(&t, counted[0], 28 * 56 * 56, 0);
+    compare(&t, counted[1], 56 * 56 * 14, 1);
+    report_drawn(t);
+}
+
+/* kinds of rows: with one to four flips, and with those that make a row codeword of another one */
+enum { ROW_KINDS = 5, OTHER_ROW_CODEWORD = 4 };
+
+static uint64_t draw_row(unsigned kind)
+{
+    return kind == OTHER_ROW_CODEWORD ? second_grid(1 + draw() % 15) & 255 : draw_places(255, kind + 1);
+}
+
+/* so many rows of each kind, anywhere */
+static uint64_t draw_rows(const unsigned many[ROW_KINDS])
+{
+    unsigned places[8] = {0, 8, 16, 24, 32, 40, 48, 56}, used = 0;
+    uint64_t flips = 0;
+    draw_front(places, 8, 8);
+    for (unsigned kind = 0; kind < ROW_KINDS; kind++)
+        for (unsigned k = 0; k < many[kind]; k++)
+            flips |= draw_row(kind) << places[used++];
+    return flips;
+}
+
+/* Every number of rows set aside, 0 to 8 in trial one and in trial two, with every number of wrong rows. Where it is about the radius there
+   are more words. */
+static void kinds_of_rows(void)
+{
+    struct test t = {.name = "decode, every number of rows with one to four flips and with row codewords"};
+    for (unsigned k = 0; k < 9 * 9 * 9 * 9 * 9; k++) {
+        unsigned many[ROW_KINDS] = {k % 9, k / 9 % 9, k / 81 % 9, k / 729 % 9, k / 6561};
+        unsigned rows = many[0] + many[1] + many[2] + many[3] + many[4];
+        unsigned flips = many[0] + 2 * many[1] + 3 * many[2] + 4 * many[3] + 4 * many[4];
+        for (unsigned n = rows > 8 ? 0 : flips > RADIUS + 1 ? 2 : FEW; n > 0; n--)
+            decode_flipped(&t, draw_codeword(), draw_rows(many));
+    }
+    finish(&t);
+}
+
+/* the flips that repairing a row needs, and the repaired row: the nearest of 16 */
+static unsigned repair(uint64_t row, uint64_t *repaired)
+{
+    unsigned least = 8;
+    for (unsigned d = 0; d < 16; d++)
+        if (second_distance(row, clean.read[d] & 255) < least) {
+            *repaired = clean.read[d] & 255;
+            least = second_distance(row, *repaired);
+        }
+    return least;
+}
+
+/* the second program's candidate of a trial beside a slow search: every row of every codeword is looked at */
+static void compare_candidate(struct test *t, uint64_t read, unsigned trial)
+{
+    uint64_t candidate = 0, found = 0, count = 0, repaired[8];
+    unsigned s = 0, aside[8];
+    for (unsigned r = 0; r < 8; r++) {
+        aside[r] = repair(read >> 8 * r & 255, &repaired[r]) >= (trial == 1 ? 2 : 1);
+        s += aside[r];
+    }
+    for (uint32_t d = 0; d < VALUES; d++) {
+        unsigned w = 0;
+        for (unsigned r = 0; r < 8; r++)
+            w += !aside[r] && (clean.read[d] >> 8 * r & 255) != repaired[r];
+        if (2 * w + s <= 3) {
+            found = clean.read[d];
+            count++;
+        }
+    }
+    compare(t, (uint64_t)second_candidate(read, trial, &candidate), count, read);
+    compare(t, candidate, found, read);
+}
+
+static void candidates(void)
+{
+    struct test t = {.name = "the second program's candidates, beside every codeword"};
+    read_codewords();
+    for (unsigned k = 0; k < FEW; k++) {
+        unsigned many[ROW_KINDS];
+        for (unsigned kind = 0; kind < ROW_KINDS; kind++)
+            many[kind] = draw() % 2;
+        uint64_t flipped = draw_codeword() ^ draw_rows(many), any = draw();
+        for (unsigned trial = 1; trial <= 2; trial++) {
+            compare_candidate(&t, flipped, trial);
+            compare_candidate(&t, any, trial);
+        }
+    }
+    report_drawn(t);
+}
+
 /* slices of 0 to 3 places in rooms of 4: nothing is written behind a slice, and nothing at all if the lengths are not the same */
 static void lengths(void)
 {
@@ -276,7 +429,7 @@ static void lengths(void)
         for (unsigned p = 0; p < ROOM; p++) {
             int written = n == m && m == l && l == o && p < n;
             compare(&t, read[p], second_grid((uint16_t)p), k);
-            compare(&t, verdicts[p], written ? p : UNTOUCHED, k);
+            compare(&t, verdicts[p], written ? verdict_number((struct answer){.data = p, .trials = 1}) : UNTOUCHED, k);
             compare(&t, repaired[p], written ? second_grid((uint16_t)p) : UNTOUCHED, k);
             compare(&t, patterns[p], written ? 0 : UNTOUCHED, k);
         }
@@ -294,6 +447,10 @@ static void all(void)
     flipped_words();
     random_words();
     half_way();
+    one_row();
+    every_two_wrong_rows();
+    kinds_of_rows();
+    candidates();
     lengths();
     report_drawn(plain);
 }

@@ -6,7 +6,7 @@
 
 static inline uint64_t verdict_number(struct answer a)
 {
-    return a.data | a.flips << 16 | (uint64_t)a.number << 24 | (uint64_t)a.blank << 32;
+    return a.data | a.flips << 16 | a.number << 24 | a.trials << 28 | (uint64_t)a.blank << 32;
 }
 
 static inline uint32_t scrub_number(struct block_answer a)

@@ -11,9 +11,9 @@ uint32_t grid_radius(void);
 uint32_t grid_length(void);
 uint32_t grid_distance(void);
 
-/* A verdict is one number: the data, from bit 16 on the flips, from bit 24 on the refusal's number (0 none, 1 lost), and bit 32 if the grid
-   is blank, which has no data: 0. A pattern has ones in the places that were flipped, and is 0 if none was or the word is lost. The four
-   slices have one length; for others nothing is done. */
+/* A verdict is one number: the data, from bit 16 on the flips, from bit 24 on the refusal's number (0 none, 1 lost), from bit 28 on the
+   trials made, 1 or 2, which are 2 if the word is lost, and bit 32 if the grid is blank, which has no data: 0. A pattern has ones in the
+   places that were flipped, and is 0 if none was or the word is lost. The four slices have one length; for others nothing is done. */
 void grid_decode(const uint64_t *words, uint64_t n, uint64_t *verdicts, uint64_t m, uint64_t *repaired, uint64_t k, uint64_t *patterns,
                  uint64_t p);
 

@@ -8,7 +8,7 @@ void *memchr(const void *, int, unsigned long);
 
 enum { VALUES = 65536, LONGEST_PAGE = 512, NUMBERS = 6, LENGTH_NOT_ALLOWED = 3, LOST = 1, ERASED = 7 };
 
-unsigned second_radius = 7;
+unsigned second_radius = 7, second_most_paid = 3;
 
 /* A grid place by place: what stands at row r, place c. */
 struct places {
@@ -74,29 +74,49 @@ unsigned second_distance(uint64_t a, uint64_t b)
    the codewords of its high and of its low byte. So a word differs from it in the places in which the word, exclusive or the high byte's
    codeword, differs from the low byte's. They are counted row by row: differing[r][x][l] is the count if row r is x and the low byte l.
    `decode` tests the rule and the counts. */
-static uint64_t high[256];
+static uint64_t high[256], low[256];
 static uint8_t differing[8][256][256];
+
+/* Repairing a row makes it the nearest of the 16 row codewords, which are row 0 of the codewords of 0 to 15. Where that needs two flips
+   several are as near, and any of them will do: the row is set aside in both trials. */
+static struct {
+    uint8_t flips, repaired;
+} rows[256];
+
+static void prepare_rows(void)
+{
+    for (unsigned x = 0; x < 256; x++) {
+        rows[x].flips = 8;
+        for (uint16_t d = 0; d < 16; d++) {
+            uint8_t row = (uint8_t)second_grid(d), flips = (uint8_t)second_distance(x, row);
+            if (flips < rows[x].flips) {
+                rows[x].flips = flips;
+                rows[x].repaired = row;
+            }
+        }
+    }
+}
 
 static void prepare(void)
 {
+    static int prepared;
+    if (prepared)
+        return;
+    prepared = 1;
     for (unsigned d = 0; d < 256; d++) {
-        uint64_t low = second_grid((uint16_t)d);
+        low[d] = second_grid((uint16_t)d);
+        high[d] = second_grid((uint16_t)(256 * d));
         for (unsigned r = 0; r < 8; r++)
             for (unsigned x = 0; x < 256; x++)
-                differing[r][x][d] = (uint8_t)second_distance(x, low >> 8 * r & 255);
-        high[d] = second_grid((uint16_t)(256 * d));
+                differing[r][x][d] = (uint8_t)second_distance(x, low[d] >> 8 * r & 255);
     }
+    prepare_rows();
 }
 
 const uint8_t *second_counts(uint64_t word)
 {
     static uint8_t counts[VALUES];
-    static int prepared;
-    if (!prepared) {
-        prepare();
-        prepared = 1;
-    }
-
+    prepare();
     for (unsigned h = 0; h < 256; h++) {
         const uint8_t *row[8];
         for (unsigned r = 0; r < 8; r++)
@@ -107,6 +127,66 @@ const uint8_t *second_counts(uint64_t word)
     return counts;
 }
 
+/* a trial on a word: which rows it sets aside, and the repaired rows; how many candidates it has, and the last of them */
+struct trial {
+    uint8_t aside[8], repaired[8];
+    unsigned candidates;
+    uint64_t candidate;
+};
+
+/* Whether row r of a codeword is one of w: it is not set aside, and does not agree with the repaired row. */
+static inline unsigned disagrees(const struct trial *t, unsigned r, uint64_t row)
+{
+    return !t->aside[r] && (row & 255) != t->repaired[r];
+}
+
+/* The candidate of a trial, with s rows set aside, is the codeword whose other rows agree with the repaired rows in all but w, with 2w + s
+   at most 3. This goes through all codewords with this data in rows 0 to r - 1, where `paid` is s, and 2 for each of these rows that
+   disagrees. Row r (0 to 3) of a codeword has its own four data bits and no others: if it makes that too much, it does so in all codewords
+   that have it, and they are passed over. `decode` tests that no candidate is. */
+static void look(struct trial *t, unsigned r, uint32_t data, unsigned paid)
+{
+    if (r < 4) {
+        for (uint32_t places = 0; places < 16; places++) {
+            unsigned more = paid + 2 * disagrees(t, r, low[places]);
+            if (more <= second_most_paid)
+                look(t, r + 1, data | places << 4 * r, more);
+        }
+        return;
+    }
+    uint64_t codeword = high[data / 256] ^ low[data % 256];
+    for (; r < 8; r++)
+        paid += 2 * disagrees(t, r, codeword >> 8 * r);
+    if (paid <= second_most_paid) {
+        t->candidates++;
+        t->candidate = codeword;
+    }
+}
+
+int second_candidate(uint64_t word, unsigned trial, uint64_t *candidate)
+{
+    /* Call a row set aside if repairing it needs two flips; in trial two, if it needs one or two. */
+    struct trial t = {.candidates = 0};
+    unsigned s = 0;
+    prepare();
+    for (unsigned r = 0; r < 8; r++) {
+        unsigned row = word >> 8 * r & 255;
+        t.aside[r] = trial == 1 ? rows[row].flips == 2 : rows[row].flips >= 1;
+        t.repaired[r] = rows[row].repaired;
+        s += t.aside[r];
+    }
+    if (s <= second_most_paid)
+        look(&t, 0, 0, s);
+
+    /* At most one such exists. */
+    if (t.candidates > 1) {
+        printf("FAILED the second program, two candidates: in trial %u on the grid %016llX\n", trial, (unsigned long long)word);
+        exit(1);
+    }
+    *candidate = t.candidate;
+    return t.candidates == 1;
+}
+
 struct answer second_decode(uint64_t word)
 {
     /* Let n be the least number of places in which the word read differs from a codeword. */
@@ -115,9 +195,14 @@ struct answer second_decode(uint64_t word)
     for (unsigned d = 0; d < VALUES; d++)
         n = counts[d] < n ? counts[d] : n;
 
+    /* Trials made: 1 if the first candidate is within 7 places, 2 otherwise. */
+    uint64_t candidate;
+    int given = second_candidate(word, 1, &candidate) && second_distance(word, candidate) <= second_radius;
+    uint32_t trials = given ? 1 : 2;
+
     /* If n is over the radius: lost. On refusal the grid as read, and no flips. */
     if (n > second_radius)
-        return (struct answer){.number = LOST, .repaired = word};
+        return (struct answer){.number = LOST, .trials = trials, .repaired = word};
 
     /* No word has two nearest codewords within the radius. */
     const uint8_t *one = memchr(counts, n, VALUES);
@@ -130,11 +215,19 @@ struct answer second_decode(uint64_t word)
        no data. If not: clean if n = 0, mended with n flips otherwise. */
     uint16_t data = (uint16_t)(one - counts);
     uint64_t codeword = second_grid(data);
-    struct answer a = {.flips = n, .repaired = codeword, .pattern = second_pattern(word, codeword)};
+    struct answer a = {.flips = n, .trials = trials, .repaired = codeword, .pattern = second_pattern(word, codeword)};
     if (codeword == ERASED_GRID)
         a.blank = 1;
     else
         a.data = data;
+
+    /* If a codeword within 7 exists, one of the two trials gives it. */
+    if (!given)
+        given = second_candidate(word, 2, &candidate);
+    if (!given || candidate != codeword) {
+        printf("FAILED the second program, no candidate: no trial gives the codeword near the grid %016llX\n", (unsigned long long)word);
+        exit(1);
+    }
     return a;
 }
 

@@ -18,19 +18,24 @@ unsigned second_distance(uint64_t a, uint64_t b);
 /* In how many places a word differs from the codeword of each of the 65,536 data values. They stand until the next call. */
 const uint8_t *second_counts(uint64_t word);
 
+/* The candidate of trial 1 or 2 on a word. It returns 1 if there is one, and 0 if there is none. */
+int second_candidate(uint64_t word, unsigned trial, uint64_t *candidate);
+
 /* What a word read gives: the refusal's number (0 where nothing is refused, 1 lost), whether it is blank, the data (0 if it is blank or
-   refused), the flips (0 on refusal), the repaired grid, and the pattern of the flips (0 if there are none, and on refusal). */
+   refused), the flips (0 on refusal), the trials made, the repaired grid, and the pattern of the flips (0 if there are none, and on
+   refusal). */
 struct answer {
-    uint32_t number, blank, data, flips;
+    uint32_t number, blank, data, flips, trials;
     uint64_t repaired, pattern;
 };
 
-/* The answer by the definition: every codeword is looked at. Where two are nearest, within the radius, it prints a line that begins with
-   FAILED, and the program ends with status 1: no word has such a tie. */
+/* The answer by the definition: every codeword is looked at. No word has two nearest codewords within the radius, or two candidates in one
+   trial, or a codeword within the radius that neither trial gives: where one has, a line is printed that begins with FAILED, and the program
+   ends with status 1. */
 struct answer second_decode(uint64_t word);
 
-/* 7. `ties` sets it to 8, to see that a tie is found: two codewords may be 16 places apart. */
-extern unsigned second_radius;
+/* 7 and 3, the radius and the most that 2w + s is of a candidate. `ties` sets others, to see that what no word has is looked for. */
+extern unsigned second_radius, second_most_paid;
 
 /* One grid more in a tally, which is grids, clean, blank, mended, lost and flips. The pattern stays as it is unless the grid is mended. */
 void second_count(struct answer a, uint32_t tally[6], uint64_t *pattern);

@@ -14,20 +14,26 @@ enum { ROUNDS = 20, PAGE = 512, NUMBERS = 6, TALLIES = 11, BLOCK_DATA = 32, MOST
 static const uint64_t ALL = UINT64_MAX, LOW = UINT32_MAX, NONE = 0;
 static const uint64_t LENGTH_NOT_ALLOWED = 3, TOO_SHORT = (uint64_t)6 << 32;
 
-/* What is flipped in a grid, its verdict from bit 16 on, and whether it is the erased one: clean; mended after one, three and seven flips,
-   and by the second trial; lost; blank, without flips, and as the mended ones. */
+/* What is flipped in a grid, its verdict from bit 16 on but for the trials, these, and whether it is the erased grid: clean; mended after
+   one, three and seven flips, after trials with one, two and three rows set aside, and by the second trial, with two and with three; lost;
+   blank, without flips, and as the mended ones. */
 static const struct {
-    uint64_t flips, verdict;
+    uint64_t flips;
+    uint32_t verdict, trials;
     int erased;
-} kinds[] = {{0, 0, 0},
-             {0x0000000000000001, 1, 0},
-             {0x0000400002000001, 3, 0},
-             {0x0102040810204000, 7, 0},
-             {0x0000000000070007, 6, 0},
-             {0x000000B1000000B1, 1 << 8, 0},
-             {0, 1 << 16, 1},
-             {0x0102040810204000, 1 << 16 | 7, 1},
-             {0x0000000000070007, 1 << 16 | 6, 1}};
+} kinds[] = {{0, 0, 1, 0},
+             {0x0000000000000001, 1, 1, 0},
+             {0x0000400002000001, 3, 1, 0},
+             {0x0102040810204000, 7, 1, 0},
+             {0x0000000003000700, 5, 1, 0},
+             {0x0003000000030000, 4, 1, 0},
+             {0x0300000003000003, 6, 1, 0},
+             {0x0000000000070007, 6, 2, 0},
+             {0x0001000000070007, 7, 2, 0},
+             {0x000000B1000000B1, 1 << 8, 2, 0},
+             {0, 1 << 16, 1, 1},
+             {0x0102040810204000, 1 << 16 | 7, 1, 1},
+             {0x0000000000070007, 1 << 16 | 6, 2, 1}};
 enum { KINDS = sizeof kinds / sizeof *kinds };
 
 static uint64_t draw_kind(unsigned kind)
@@ -70,7 +76,7 @@ static void decode_grids(struct test *t)
         draw_page(words, round);
         make_call(t, words, sizeof words, plain_side ? plain : library, 0);
         if (round < KINDS)
-            compare(t, verdicts[PAGE - 1] >> 16, kinds[round].verdict, t->compared);
+            compare(t, verdicts[PAGE - 1] >> 16, kinds[round].verdict | kinds[round].trials << 12, t->compared);
     }
 }
 

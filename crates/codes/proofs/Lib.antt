@@ -4,4 +4,5 @@ pub mod Tally
 pub mod Product
 pub mod Trials
 pub mod Address
-pub mod Column
+pub mod Deciding
+pub mod Whole

@@ -5,11 +5,16 @@ use Prim.Native.Nat.{ℕ, _^_, _<_}
 use Rattle.words.specs.Digits.{digits, joined}
 use Rattle.words.proofs.Digits.{joined-digits}
 use Rattle.codes.specs.Verdict.{scrubbed, patternOf}
+use Rattle.codes.specs.Trials.{trialsOf}
 use Rattle.codes.proofs.Tally.{scrubbed-lt}
 use Rattle.grid_code.specs.Code.{gridCode}
+use Rattle.grid_code.specs.Sides.{sides}
 use Rattle.grid_code.specs.Verdict.{gridVerdict}
 use Rattle.grid_code.proofs.Distance.{codeword-lt}
 use Rattle.grid_code.proofs.Promises.{promised}
+use Rattle.grid_rows.specs.Repair.{fixed}
+use Rattle.grid_rows.proofs.Repair.{repair}
+use Rattle.grid_trials.proofs.Decoder.{decide}
 use Rattle.grid.specs.Answer.{verdictOf}
 use Rattle.grid.specs.Calls.{Decoded}
 use Rattle.grid.specs.declared.Answer.{Answer}
@@ -19,6 +24,13 @@ decoded-verdict w rows a l e d = d .answer ∙ ap gridVerdict (ap (joined 8) e �
 
 pub decoded-pattern : (w : ℕ) (rows : List ℕ) (a : Answer) → w < 2 ^ 64 → rows ≡ digits 8 8 w → Decoded rows a → a .pattern ≡ patternOf gridCode w
 decoded-pattern w rows a l e d = d .pattern ∙ ap (patternOf gridCode) (ap (joined 8) e ∙ joined-digits 8 8 w l)
+
+pub decoded-trials : (w : ℕ) (rows : List ℕ) (a : Answer) → w < 2 ^ 64 → rows ≡ digits 8 8 w → Decoded rows a
+    → a .trials ≡ trialsOf sides gridCode fixed w
+decoded-trials w rows a l e d =
+    decide .reported (joined 8 rows) (a .trials) (trialsOf sides gridCode fixed (joined 8 rows)) (d .trials fixed repair)
+    (decide .computed (joined 8 rows))
+    ∙ ap (trialsOf sides gridCode fixed) (ap (joined 8) e ∙ joined-digits 8 8 w l)
 
 pub scrubbed-number : (w : ℕ) → w < 2 ^ 64 → joined 8 (digits 8 8 (scrubbed gridCode w)) ≡ scrubbed gridCode w
 scrubbed-number w l =

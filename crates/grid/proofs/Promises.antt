@@ -20,16 +20,21 @@ use Rattle.refusals.proofs.Promises.{nothing-given}
 use Rattle.codes.specs.Verdict as codes
 use Rattle.codes.specs.Verdict.{verdict, repaired, scrubbed, patternOf}
 use Rattle.codes.specs.Tally.{isClean}
-use Rattle.codes.proofs.Promises.{answered-repaired, clean-word}
+use Rattle.codes.specs.Trials.{Trials, Gives, one, two}
+use Rattle.codes.proofs.Promises.{answered-repaired, has-verdict, clean-word}
 use Rattle.grid_code.specs.Equations.{Codeword}
 use Rattle.grid_code.specs.Code.{codeword, gridCode}
+use Rattle.grid_code.specs.Sides.{sides}
 use Rattle.grid_code.specs.Verdict.{Verdict, clean, blank, mended, lost, erased, allOnes, named, gridVerdict, IsGridVerdict, answered, flipsOf, GridDemand3}
 use Rattle.grid_code.proofs.Promises.{promised}
 use Rattle.grid_code.proofs.Verdict.{named-blank, named-clean, named-answered, blank-repaired}
 use Rattle.grid_code.proofs.Distance.{codeword-lt}
+use Rattle.grid_rows.specs.Repair.{fixed}
+use Rattle.grid_rows.proofs.Repair.{repair}
+use Rattle.grid_trials.proofs.Decoder.{decide, decide-with, any-candidate}
 use Rattle.grid.specs.Answer.{verdictOf, replied, means, encodeMeans}
 use Rattle.grid.specs.Calls.{Encoded, Decoded}
-use Rattle.grid.specs.Promises.{EncodePromises, DecodePromises, CodewordPromises, OneOutcome}
+use Rattle.grid.specs.Promises.{EncodePromises, DecodePromises, TrialsPromises, CodewordPromises, OneOutcome}
 use Rattle.grid.specs.declared.Encoding.{Encoding}
 use Rattle.grid.specs.declared.EncodeAnswer.{EncodeAnswer}
 use Rattle.grid.specs.declared.EncodeAnswer.the-variants.{Done, Refused}
@@ -195,6 +200,7 @@ same-answer rows a b p q = λ i. record {
   verdict = (sym (told-verdict (a .verdict)) ∙ ap told (p .answer ∙ sym (q .answer)) ∙ told-verdict (b .verdict)) i;
   grid = record { rows = (p .repaired ∙ sym (q .repaired)) i };
   pattern = (p .pattern ∙ sym (q .pattern)) i;
+  trials = decide .reported (joined 8 rows) (a .trials) (b .trials) (p .trials fixed repair) (q .trials fixed repair) i;
 }
 
 pub decode-promised : DecodePromises
@@ -225,6 +231,41 @@ decode-promised = record {
       let (v, g) =
       of-word (digits 8 8 (bitXor (codeword d) p)) r h (bitXor (codeword d) p) codes.lost (flipped d p l k) (promised .eight-are-lost d p l e) in
       (v, g);
+}
+
+-- ---- the trials
+
+one-or-two : (w n : ℕ) → Trials sides gridCode fixed w n → (n ≡ 1) ⊎ (n ≡ 2)
+one-or-two w n (one d m g) = inl refl
+one-or-two w n (two h) = inr refl
+
+one-is-first : (fix : ℕ → ℕ) (w n : ℕ) → Trials sides gridCode fix w n → n ≡ 1 → (d : ℕ) × (m : ℕ) × Gives sides gridCode fix 2 w d m
+one-is-first fix w n (one d m g) e = (d, m, g)
+one-is-first fix w n (two h) e = absurd (omega (arith, e))
+
+-- a verdict without flips: by the code it is clean
+clean-of-flips : (v : codes.Verdict) (w : ℕ) → codes.IsVerdict gridCode w v → codes.flipsOf v ≡ 0 → named v ≢ lost → (d : ℕ) × (v ≡ codes.clean d)
+clean-of-flips (codes.clean d) w p e ne = (d, refl)
+clean-of-flips (codes.mended d n) w (p, l, r) e ne = absurd (omega (arith, e))
+clean-of-flips codes.lost w p e ne = absurd (ne refl)
+
+pub trials-promised : TrialsPromises
+trials-promised = record {
+  some-repair = (fixed, repair);
+  any-repair = any-candidate;
+  decide = decide-with;
+  first-is-one = λ fix rows r d n R h g. decide-with fix R .reported (joined 8 rows) (r .trials) 1 (h .trials fix R) (one d n g);
+  one-is-first = λ fix rows r R h e. one-is-first fix (joined 8 rows) (r .trials) (h .trials fix R) e;
+  one-or-two = λ rows r h. one-or-two (joined 8 rows) (r .trials) (h .trials fixed repair);
+  unharmed-one = λ rows r v h e z.
+      let is : v ≡ gridVerdict (joined 8 rows) = given-is (verdictOf (r .verdict)) e ∙ h .answer in
+      let (d, c) =
+      clean-of-flips (verdict gridCode (joined 8 rows)) (joined 8 rows) (has-verdict gridCode (promised .verdicts) (joined 8 rows) refl)
+      (sym (promised .flips (joined 8 rows)) ∙ sym (ap flipsOf is) ∙ z)
+      (λ lost-one. nothing-given LostGrid (sym (ap replied (h .answer ∙ lost-one)) ∙ e)) in
+      decide .reported (joined 8 rows) (r .trials) 1 (h .trials fixed repair) (decide .clean-one (joined 8 rows) d c);
+  lost-two = λ rows r h ne.
+      decide .reported (joined 8 rows) (r .trials) 2 (h .trials fixed repair) (decide .lost-two (joined 8 rows) (code-lost rows r h ne));
 }
 
 pub codeword-promised : CodewordPromises

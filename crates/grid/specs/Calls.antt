@@ -9,8 +9,10 @@ use Rattle.words.specs.Digits.{digits, joined}
 use Rattle.refusals.specs.declared.Refusal.the-variants.{Erased}
 use Rattle.codes.specs.Verdict.{verdict, scrubbed, patternOf}
 use Rattle.codes.specs.Tally.{isClean}
+use Rattle.codes.specs.Trials.{Repair, Trials}
 use Rattle.grid_code.specs.Equations.{Codeword}
 use Rattle.grid_code.specs.Code.{codeword, gridCode}
+use Rattle.grid_code.specs.Sides.{sides}
 use Rattle.grid_code.specs.Verdict.{erased, gridVerdict}
 use Rattle.grid.specs.Answer.{verdictOf}
 use Rattle.grid.specs.declared.Encoding.{Encoding}
@@ -36,9 +38,10 @@ pub record Parted (w : ℕ) (rows : List ℕ) : Type 0 where
 pub record Judged (rows : List ℕ) (r : Bool) : Type 0 where
   pub answer : r ≡ eqb (isClean (verdict gridCode (joined 8 rows))) 1
 
--- `Grid::decode` and `Grid::mend`: the verdict on the grid; beside it the codeword, or on refusal the grid as read; and the pattern of the
--- flips.
+-- `Grid::decode` and `Grid::mend`: the verdict on the grid; beside it the codeword, or on refusal the grid as read; the pattern of the
+-- flips; and the trials: 1 if the first candidate is within 7 places, 2 otherwise, with whichever repair of rows.
 pub record Decoded (rows : List ℕ) (r : Answer) : Type 0 where
   pub answer : verdictOf (r .verdict) ≡ gridVerdict (joined 8 rows)
   pub repaired : r .grid .rows ≡ digits 8 8 (scrubbed gridCode (joined 8 rows))
   pub pattern : r .pattern ≡ patternOf gridCode (joined 8 rows)
+  pub trials : (fix : ℕ → ℕ) → Repair sides fix → Trials sides gridCode fix (joined 8 rows) (r .trials)

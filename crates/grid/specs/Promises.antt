@@ -1,4 +1,5 @@
--- What is proved of the grid's calls, whatever was given or read (`encode-promised`, `decode-promised`, `codeword-promised`, `one-outcome`).
+-- What is proved of the grid's calls, whatever was given or read (`encode-promised`, `decode-promised`, `trials-promised`,
+-- `codeword-promised`, `one-outcome`).
 -- What is proved of the code stands in the crate grid_code. Assumes nothing.
 use mathlib.Core.Path.{_≡_}
 use mathlib.Core.Logic.{_≢_, _⊎_}
@@ -12,8 +13,10 @@ use Rattle.words.specs.Word.{dist}
 use Rattle.words.specs.Digits.{digits, joined, Below}
 use Rattle.refusals.specs.Reply.{gives, refuses}
 use Rattle.codes.specs.Verdict.{Tie}
+use Rattle.codes.specs.Trials.{Repair, CandidateOf, Gives, TrialsDecide}
 use Rattle.grid_code.specs.Equations.{Codeword}
 use Rattle.grid_code.specs.Code.{codeword, gridCode}
+use Rattle.grid_code.specs.Sides.{sides}
 use Rattle.grid_code.specs.Verdict.{Verdict, clean, blank, erased, allOnes, IsGridVerdict, answered, flipsOf, GridDemand3}
 use Rattle.grid.specs.Answer.{verdictOf, means, encodeMeans}
 use Rattle.grid.specs.Calls.{Encoded, Numbered, Parted, Judged, Decoded}
@@ -68,6 +71,25 @@ pub record DecodePromises : Type 0 where
   -- Eight are always lost, and the grid stays as read.
   pub eight : (d p : ℕ) (r : Answer) → d < 2 ^ 16 → p < 2 ^ 64 → ones p ≡ gridCode .radius + 1 → Decoded (digits 8 8 (bitXor (codeword d) p)) r
       → (means (r .verdict) ≡ refuses 1) × (r .grid .rows ≡ digits 8 8 (bitXor (codeword d) p))
+
+-- What the trials promise, with every repair of rows: a row of the row code at most two flips away.
+pub record TrialsPromises : Type 0 where
+  -- There is a repair, and which one is taken makes no difference to a candidate.
+  pub some-repair : (fix : ℕ → ℕ) × Repair sides fix
+  pub any-repair : (fix other : ℕ → ℕ) (t w d : ℕ) → Repair sides fix → Repair sides other → t ≤ 2 → CandidateOf sides gridCode fix t w d
+      → CandidateOf sides gridCode other t w d
+  -- A trial has at most one candidate. If a codeword within 7 places exists, one of the two trials gives it.
+  pub decide : (fix : ℕ → ℕ) → Repair sides fix → TrialsDecide sides gridCode fix
+  -- The answer's trials are 1 exactly if the first candidate is within 7 places, and 2 otherwise.
+  pub first-is-one : (fix : ℕ → ℕ) (rows : List ℕ) (r : Answer) (d n : ℕ) → Repair sides fix → Decoded rows r
+      → Gives sides gridCode fix 2 (joined 8 rows) d n → r .trials ≡ 1
+  pub one-is-first : (fix : ℕ → ℕ) (rows : List ℕ) (r : Answer) → Repair sides fix → Decoded rows r → r .trials ≡ 1
+      → (d : ℕ) × (n : ℕ) × Gives sides gridCode fix 2 (joined 8 rows) d n
+  pub one-or-two : (rows : List ℕ) (r : Answer) → Decoded rows r → (r .trials ≡ 1) ⊎ (r .trials ≡ 2)
+  -- They are 1 where no place was flipped, and 2 where the grid is lost.
+  pub unharmed-one : (rows : List ℕ) (r : Answer) (v : Verdict) → Decoded rows r → means (r .verdict) ≡ gives v → flipsOf v ≡ 0
+      → r .trials ≡ 1
+  pub lost-two : (rows : List ℕ) (r : Answer) → Decoded rows r → ((v : Verdict) → means (r .verdict) ≢ gives v) → r .trials ≡ 2
 
 -- What `Grid::is_codeword` promises: it is true of codewords, all ones among them, and of nothing else.
 pub record CodewordPromises : Type 0 where

@@ -14,9 +14,10 @@
 // four rows or more, in four places or more of each: in 16 places at least, and up to seven flips leave a grid nearer to what was written
 // than to the grid of any other value.
 //
-// The decoder puts each row right, sets aside those that it cannot be sure of, and lets the columns decide (crates grid_rows and
-// grid_trials). What it hands out it has counted: a codeword within seven places. The places that differ are the pattern of the flips. All
-// ones is a codeword, too, and Flash comes erased to it: such a grid is blank, it has no data, and 65,535 is not encoded.
+// The decoder repairs each row, sets aside those that it cannot be sure of, and lets the columns decide, in two trials at most (crates
+// grid_rows, grid_columns and grid_trials). What it hands out it has counted: a codeword within seven places. The places that differ are the
+// pattern of the flips. All ones is a codeword, too, and Flash comes erased to it: such a grid is blank, it has no data, and 65,535 is not
+// encoded.
 //
 // The crate grid_code has the parities and what is proved of the code, specs/Calls.antt what each call promises, and specs/Promises.antt
 // what is proved of the calls. As a number a grid has row r in byte r, lowest byte first, and place c of a row in bit c.
@@ -53,12 +54,13 @@ pub enum Verdict {
     Lost,
 }
 
-// A verdict, with the codeword beside it, or the grid as read where there is no data; and the pattern of the flips: the places in which the
-// grid as read differs from that. It is zero where the grid is clean or lost.
+// A verdict, with the codeword beside it, or the grid as read where there is no data; the pattern of the flips: the places in which the
+// grid as read differs from that, zero where the grid is clean or lost; and the trials made: 1 if the first gave the codeword, 2 if not.
 pub struct Answer {
     pub verdict: Verdict,
     pub grid: Grid,
     pub pattern: u64,
+    pub trials: u32,
 }
 
 impl Grid {
@@ -110,9 +112,9 @@ impl Grid {
         grid_code::completed(grid_code::places_of(word)) == word
     }
 
-    // The answer where the codeword that is near enough was found, and the number of places that differ.
-    fn answered(self, number: u64, flips: u32) -> Answer
-        ensures { λ r. ⌜ (Nearby (self .rows) (Within number flips) → Decoded (self .rows) r) ⌝ }
+    // The answer where the codeword that is near enough was found, with the number of places that differ and the trials made.
+    fn answered(self, number: u64, flips: u32, trials: u32) -> Answer
+        ensures { λ r. ⌜ (Nearby (self .rows) (Within number flips trials) → Decoded (self .rows) r) ⌝ }
     {
         let grid = Grid::of_number(number);
         let pattern = self.number() ^ number;
@@ -121,6 +123,7 @@ impl Grid {
                 verdict: Verdict::Blank { flips },
                 grid,
                 pattern,
+                trials,
             };
         }
         let data = grid_code::data_of(grid_code::places_of(number));
@@ -129,12 +132,14 @@ impl Grid {
                 verdict: Verdict::Clean(data),
                 grid,
                 pattern,
+                trials,
             };
         }
         Answer {
             verdict: Verdict::Mended { data, flips },
             grid,
             pattern,
+            trials,
         }
     }
 
@@ -143,14 +148,20 @@ impl Grid {
         ensures { λ r. ⌜ Decoded (self .rows) r ⌝ }
     {
         let rows = self.rows;
-        let Near::Within { number, flips } = grid_trials::nearest(rows) else {
+        let Near::Within {
+            number,
+            flips,
+            trials,
+        } = grid_trials::nearest(rows)
+        else {
             return Answer {
                 verdict: Verdict::Lost,
                 grid: self,
                 pattern: 0,
+                trials: 2,
             };
         };
-        self.answered(number, flips)
+        self.answered(number, flips, trials)
     }
 
     // The same, and quicker where the grid is a codeword.
@@ -158,7 +169,7 @@ impl Grid {
         ensures { λ r. ⌜ Decoded (self .rows) r ⌝ }
     {
         if self.is_codeword() {
-            return self.answered(self.number(), 0);
+            return self.answered(self.number(), 0, 1);
         }
         self.mend()
     }

@@ -21,16 +21,17 @@ unfolding dataOf
 same-data g h e = sum-eq 16 (λ k. dataBit g k * 2 ^ k) (λ k. dataBit h k * 2 ^ k) (λ k l. ap (λ (x : ℕ). x * 2 ^ k) (e k l))
 
 -- the other places do not count
-pub data-masked : (g : ℕ) → dataOf (dataPlaces g) ≡ dataOf g
-data-masked g =
-    same-data (dataPlaces g) g
-    (λ k l. bit-and g 0x0F0F_0F0F (at k) ∙ ap (min (bit g (at k))) (kept k l) ∙ min-one (bit g (at k)) (bit-lt g (at k)))
+place-masked : (g k : ℕ) → k < 16 → dataBit (dataPlaces g) k ≡ dataBit g k
+place-masked g k l = bit-and g 0x0F0F_0F0F (at k) ∙ ap (min (bit g (at k))) (kept k l) ∙ min-one (bit g (at k)) (bit-lt g (at k))
   where
     at : ℕ → ℕ
     at k = 8 * (k / 4) + k % 4
 
     kept : (k : ℕ) → k < 16 → bit 0x0F0F_0F0F (at k) ≡ 1
     kept = same-below 16 (λ k. bit 0x0F0F_0F0F (at k)) (λ k. 1) tt
+
+pub data-masked : (g : ℕ) → dataOf (dataPlaces g) ≡ dataOf g
+data-masked g = same-data (dataPlaces g) g (place-masked g)
 
 -- so the grid of the data places is that of the data
 pub completes : {places number : ℕ} (g : ℕ) → places ≡ dataPlaces g → Completed places number → number ≡ codeword (dataOf g)
@@ -59,23 +60,30 @@ gather = mask (pairs ⊕ shr pairs 8) 0xFFFF
 pub gather-lt : (x : ℕ) → gather .at x < 2 ^ 16
 gather-lt x = mask-lt (bitXor (pairs .at x) (pairs .at x / 2 ^ 8)) 16
 
-pub gathered : (x : ℕ) → x < 2 ^ 32 → dataOf x ≡ gather .at x
-gathered x h = bits-are (gather .at x) x (gather-lt x) each
+-- data bit k, in its data place and gathered
+gathered-bit : (x : ℕ) → x < 2 ^ 32 → (k : ℕ) → k < 16 → dataBit x k ≡ bit (gather .at x) k
+gathered-bit x h k l =
+    agree (from k) (to k) 32 (at-below 16 (λ k. allBelow 32 (λ i. eqb (from k .at (2 ^ i)) (to k .at (2 ^ i)))) tt k l) x h
   where
-    -- data bit k, in its data place ..
     from : ℕ → Linear
     from k = low (shr same (8 * (k / 4) + k % 4)) 1
 
-    -- .. and gathered
     to : ℕ → Linear
     to k = low (shr gather k) 1
 
-    each : (k : ℕ) → k < 16 → dataBit x k ≡ bit (gather .at x) k
-    each k l =
-        agree (from k) (to k) 32 (at-below 16 (λ k. allBelow 32 (λ i. eqb (from k .at (2 ^ i)) (to k .at (2 ^ i)))) tt k l) x h
+pub gathered : (x : ℕ) → x < 2 ^ 32 → dataOf x ≡ gather .at x
+gathered x h = bits-are (gather .at x) x (gather-lt x) (gathered-bit x h)
 
 -- the data has sixteen bits, whatever the word has
 pub data-lt : (g : ℕ) → dataOf g < 2 ^ 16
 data-lt g =
     subst (λ (x : ℕ). x < 2 ^ 16) (sym (gathered (dataPlaces g) (lt-of-le-of-lt (and-le-r g 0x0F0F_0F0F) (lit< tt))) ∙ data-masked g)
     (gather-lt (dataPlaces g))
+
+-- what stands in a data place is that bit of the data
+pub data-bit : (g k : ℕ) → k < 16 → dataBit g k ≡ bit (dataOf g) k
+data-bit g k l =
+    sym (place-masked g k l) ∙ gathered-bit (dataPlaces g) small k l ∙ ap (λ (x : ℕ). bit x k) (sym (gathered (dataPlaces g) small) ∙ data-masked g)
+  where
+    small : dataPlaces g < 2 ^ 32
+    small = lt-of-le-of-lt (and-le-r g 0x0F0F_0F0F) (lit< tt)

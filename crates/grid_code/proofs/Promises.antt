@@ -14,7 +14,7 @@ use Rattle.grid_code.specs.Code.{codeword, gridCode}
 use Rattle.grid_code.specs.Verdict.{erased, allOnes}
 use Rattle.grid_code.specs.Promises.{GridPromises}
 use Rattle.grid_code.proofs.Codeword.{is-codeword, one-solution, one-value}
-use Rattle.grid_code.proofs.Distance.{in-product, codeword-lt, distance}
+use Rattle.grid_code.proofs.Distance.{is-product, from-product, codeword-lt, distance}
 use Rattle.grid_code.proofs.Places.{data-is}
 use Rattle.grid_code.proofs.Verdict as grid
 
@@ -50,7 +50,8 @@ promised = record {
   one-solution = one-solution;
   one-value = one-value;
   data-places = data-is;
-  in-product = in-product;
+  product = is-product;
+  nothing-else = from-product;
   constants = states refl refl (lit≤ tt) (lit≤ tt);
   verdicts = verdicts;
   eight-are-lost = every-code gridCode .one-more-is-lost 16 distance (lit≤ tt);

@@ -8,6 +8,7 @@ use Rattle.words.specs.Digits.{digits, joined, Below}
 use Rattle.codes.specs.Verdict as codes
 use Rattle.codes.specs.Promises.{States, Promises, OneMoreIsLost}
 use Rattle.codes.specs.Product.{InProduct}
+use Rattle.codes.specs.Trials.{IsProduct}
 use Rattle.grid_code.specs.Equations.{inRow, dataOf, Codeword}
 use Rattle.grid_code.specs.Code.{codeword, gridCode}
 use Rattle.grid_code.specs.Verdict.{Verdict, lost, erased, allOnes, IsGridVerdict, gridVerdict, flipsOf, GridDemand3}
@@ -29,7 +30,9 @@ pub record GridPromises : Type 0 where
   -- .. and the data places of a grid are its data.
   pub data-places : (d g : ℕ) → d < 2 ^ 16 → Codeword d g → dataOf g ≡ d
   -- Each row of a codeword is in the row code and each column in the column code, two codes of distance 4: from that the 16 follows.
-  pub in-product : (d : ℕ) → d < 2 ^ 16 → InProduct sides (rowOf (codeword d))
+  pub product : IsProduct sides gridCode
+  -- Nothing else is such a word of 64 places.
+  pub nothing-else : (w : ℕ) → w < 2 ^ 64 → InProduct sides (rowOf w) → w ≡ codeword (dataOf w)
   -- The constants: radius 7, 64 places; two different codewords differ in at least 16 places, and some in no more.
   pub constants : States gridCode 7 64 16
   -- The code's verdicts: demand 3, no tie, and up to seven flips undone; eight are always lost.

@@ -4,10 +4,10 @@
 // verdict on a grid, in which an erased one is blank, and specs/Promises.antt what is proved of the code. The type and its calls are in the
 // crate grid; the functions here are steps of them (specs/Steps.antt).
 ghost use mathlib.Core.Path.{_≡_};
-ghost use Prim.Native.Nat.{ℕ, _/_, _%_, _^_, _<_};
+ghost use Prim.Native.Nat.{_%_, _^_};
 ghost use Rattle.grid_code.specs.Equations.{dataOf};
 ghost use Rattle.grid_code.specs.Code.{codeword};
-ghost use Rattle.grid_code.specs.Steps.{Arranged, Completed, Masked, Gathered, Coded};
+ghost use Rattle.grid_code.specs.Steps.{Arranged, RowChecks, Checks, Completed, Masked, Gathered, Coded};
 
 // How far from the word read a codeword may be: the grid's radius.
 pub const RADIUS: u32 = 7;
@@ -43,11 +43,11 @@ fn upper(places: u32) -> u32
         ^ ((d << 3) + (d << 5) + (d << 6) + (d << 7))
 }
 
-// Rows 4 to 7 from rows 0 to 3. Each of them is the parity of all four but one: row 4 leaves out row 2, row 5 row 1, row 6 row 0, and row
-// 7, since rows 4 to 6 add up to row 3, leaves out row 3. So each row takes the row two further on and the one opposite, and all move up by
-// one. As one term, the rows in the other order are one instruction.
+// Rows 4 to 7 from rows 0 to 3: the checks of rows that have nothing below them. Each of the four is the parity of all rows but one: row 4
+// leaves out row 2, row 5 row 1, row 6 row 0, and row 7, since rows 4 to 6 add up to row 3, leaves out row 3. So each row takes the row two
+// further on and the one opposite, and all move up by one. As one term, the rows in the other order are one instruction.
 fn lower(rows: u32) -> u32
-    ensures { λ r. ⌜ ((d : ℕ) → d < 2 ^ 16 → rows ≡ codeword d % 2 ^ 32 → r ≡ codeword d / 2 ^ 32) ⌝ }
+    ensures { λ r. ⌜ Checks rows r ⌝ }
 {
     let pairs = rows ^ (rows << 16) ^ (rows >> 16);
     let turned = (rows << 24)
@@ -56,6 +56,29 @@ fn lower(rows: u32) -> u32
         ^ (rows >> 24);
     let mixed = pairs ^ turned;
     (mixed << 8) ^ (mixed >> 24)
+}
+
+// The checks of each row, all eight rows at a time: what places 4 to 7 have beyond those of the row's data places, in places 0 to 3.
+pub fn row_checks(w: u64) -> u64
+    ensures { λ r. ⌜ RowChecks w r ⌝ }
+{
+    let lowest = 0x0101_0101_0101_0101;
+    let p0 = w & lowest;
+    let p1 = (w >> 1) & lowest;
+    let p2 = (w >> 2) & lowest;
+    let p3 = (w >> 3) & lowest;
+    let rows = (p0 + (p0 << 4) + (p0 << 5) + (p0 << 7))
+        ^ ((p1 << 1) + (p1 << 4) + (p1 << 6) + (p1 << 7))
+        ^ ((p2 << 2) + (p2 << 4) + (p2 << 5) + (p2 << 6))
+        ^ ((p3 << 3) + (p3 << 5) + (p3 << 6) + (p3 << 7));
+    (w ^ rows) >> 4
+}
+
+// The checks of each column: what rows 4 to 7 should be, and what they are. They are 0 where each column is in the column code.
+pub fn column_checks(w: u64) -> u32
+    ensures { λ r. ⌜ Checks w r ⌝ }
+{
+    lower((w & 0xFFFF_FFFF) as u32) ^ ((w >> 32) as u32)
 }
 
 // The grid with these data places. What else `places` has set counts for nothing.

@@ -6,5 +6,5 @@ pub one-outcome : OneOutcome
 one-outcome = record {
   number = λ rows a b p q. p .answer ∙ sym (q .answer);
   of-number = λ w a b p q. p .answer ∙ sym (q .answer);
-  mended = λ rows a b p q. p .answer ∙ sym (q .answer);
+  repaired = λ rows a b p q. p .answer ∙ sym (q .answer);
 }

@@ -1,10 +1,10 @@
-// The rows of a grid: as one number, row r in byte r, lowest byte first; and each row put right by itself. The row code has distance 4: one
+// The rows of a grid: as one number, row r in byte r, lowest byte first; and each row repaired by itself. The row code has distance 4: one
 // flip is undone, and of two it is known that there are two.
 //
-// specs/Rows.antt says what each public function computes, and what a row that is put right is.
+// specs/Rows.antt says what each public function computes, and what a repaired row is.
 ghost use mathlib.Core.Path.{_≡_};
 ghost use Prim.Native.Nat.{_+_, _*_, _%_, _^_, _<_};
-ghost use Rattle.grid_rows.specs.Rows.{Packed, Unpacked, MendedRows};
+ghost use Rattle.grid_rows.specs.Rows.{Packed, Unpacked, RepairedRows};
 
 // The lowest byte.
 fn byte(w: u64) -> u8
@@ -56,44 +56,36 @@ pub fn of_number(w: u64) -> [u8; 8]
     ]
 }
 
-// Places 4 to 7 of the row whose places 0 to 3 hold 0, 1, .. 15.
-const CHECKS: [u8; 16] = [0, 11, 13, 6, 7, 12, 10, 1, 14, 5, 3, 8, 9, 2, 4, 15];
-
-// For each difference in places 4 to 7: the flips among places 0 to 3, and 16 more where one flip or two are needed, and 32 more where two
-// are.
+// For the checks of a row: the flips that make a row of the row code, two at most. Where there are two, one is place 7.
 const FLIPS: [u8; 16] = [
-    0,
-    16,
-    16,
-    49,
-    16,
-    50,
-    56,
-    20,
-    16,
-    48,
-    48,
-    17,
-    48,
-    18,
-    24,
-    52,
+    0x00,
+    0x10,
+    0x20,
+    0x81,
+    0x40,
+    0x82,
+    0x88,
+    0x04,
+    0x80,
+    0x90,
+    0xA0,
+    0x01,
+    0xC0,
+    0x02,
+    0x08,
+    0x84,
 ];
 
-// The rows copied, and each put right: in places 0 to 3 its data places; place 4 is set where the row needed one flip or two, place 5 where
-// it needed two. A trial asks for no more.
-pub fn mended(rows: [u8; 8]) -> [u8; 8]
-    ensures { λ r. ⌜ MendedRows rows r ⌝ }
+// The rows copied, and each repaired to a row of the row code.
+pub fn repaired(rows: [u8; 8]) -> [u8; 8]
+    ensures { λ r. ⌜ RepairedRows rows r ⌝ }
 {
-    let checks = CHECKS;
     let flips = FLIPS;
+    let checks = of_number(grid_code::row_checks(number(rows)));
     let mut copy = rows;
     let mut r: usize = 0;
     while r < 8 {
-        let row = rows[r];
-        let places = row & 15;
-        let check = checks[places as usize] ^ (row >> 4);
-        copy[r] = places ^ flips[check as usize];
+        copy[r] = rows[r] ^ flips[checks[r] as usize];
         r += 1;
     }
     copy

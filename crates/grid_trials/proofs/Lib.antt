@@ -1,3 +1,3 @@
-pub mod Solving
+pub mod Aside
 pub mod Decoder
 pub mod Outcomes

@@ -8,8 +8,11 @@ use Rattle.refusals.specs.declared.Refusal.the-variants.{LostGrid}
 use Rattle.refusals.specs.Reply.{Reply, gives, refused, numbered, numberOf, numberIn}
 use Rattle.codes.specs.Verdict as codes
 use Rattle.codes.specs.Verdict.{scrubbed, patternOf}
+use Rattle.codes.specs.Trials.{trialsOf}
 use Rattle.grid_code.specs.Code.{gridCode}
+use Rattle.grid_code.specs.Sides.{sides}
 use Rattle.grid_code.specs.Verdict.{Verdict, clean, blank, mended, lost, gridVerdict}
+use Rattle.grid_rows.specs.Repair.{fixed}
 use Rattle.grid.specs.Answer.{encodeMeans}
 use Rattle.grid.specs.Calls.{Encoded}
 use Rattle.grid.specs.declared.Encoding.{Encoding}
@@ -24,12 +27,17 @@ pub record GridEncoded (value r grid : ℕ) : Type 0 where
   pub number : r ≡ numberIn (encodeMeans (encoding .answer) (encoding .grid .rows))
   pub written : grid ≡ joined 8 (encoding .grid .rows)
 
--- a verdict as one number: the data, the flips from bit 16 on, the number of a refusal from bit 24 on, and bit 32 where the grid is blank
-abbrev pub packed : Verdict → ℕ
-packed (clean d) = d
-packed (blank n) = n * 65536 + 4294967296
-packed (mended d n) = d + n * 65536
-packed lost = numberOf (numbered LostGrid) * 16777216
+-- a verdict and the trials as one number: the data, the flips from bit 16 on, the number of a refusal from bit 24 on, the trials from bit 28
+-- on, and bit 32 where the grid is blank
+abbrev pub packed : Verdict → ℕ → ℕ
+packed (clean d) t = d + t * 268435456
+packed (blank n) t = n * 65536 + 4294967296 + t * 268435456
+packed (mended d n) t = d + n * 65536 + t * 268435456
+packed lost t = numberOf (numbered LostGrid) * 16777216 + t * 268435456
+
+-- .. of a word
+abbrev pub shown : ℕ → ℕ
+shown w = packed (gridVerdict w) (trialsOf sides gridCode fixed w)
 
 -- the reply of a block's scrub as one number: the flips, or the number of a refusal from bit 8 on
 abbrev pub flipsOrNumber : Reply codes.Verdict → ℕ
@@ -47,9 +55,9 @@ pub record BlockScrubbed (before : List ℕ) (r : ℕ) (exit pattern : List ℕ)
 abbrev pub Alike : List ℕ → List ℕ → List ℕ → List ℕ → Type 0
 Alike words verdicts repaired patterns = (length verdicts ≡ length words) × (length repaired ≡ length words) × (length patterns ≡ length words)
 
--- Each word's verdict, its codeword or the word as read, and its pattern. Where the slices are not of one length, nothing is written.
+-- Each word's verdict and trials, its codeword or the word as read, and its pattern. Where the slices are not of one length, nothing is written.
 pub data Decoding (words verdicts repaired patterns verdicts′ repaired′ patterns′ : List ℕ) : Type 0 where
-  decodes : Alike words verdicts repaired patterns → verdicts′ ≡ map (λ w. packed (gridVerdict w)) words
+  decodes : Alike words verdicts repaired patterns → verdicts′ ≡ map shown words
       → repaired′ ≡ map (scrubbed gridCode) words → patterns′ ≡ map (patternOf gridCode) words
       → Decoding words verdicts repaired patterns verdicts′ repaired′ patterns′
   stays : (Alike words verdicts repaired patterns → ⊥) → verdicts′ ≡ verdicts → repaired′ ≡ repaired → patterns′ ≡ patterns

@@ -65,15 +65,17 @@ pub extern "C" fn grid_distance() -> u32
     Grid::DISTANCE
 }
 
-// An answer as one number: the data, the flips from bit 16 on, the number of a refusal from bit 24 on, and bit 32 where the grid is blank.
-fn packed(verdict: Verdict) -> u64
-    ensures { λ r. ⌜ r ≡ packed (verdictOf verdict) ⌝ }
+// An answer as one number: the data, the flips from bit 16 on, the number of a refusal from bit 24 on, the trials from bit 28 on, and bit 32
+// where the grid is blank.
+fn packed(verdict: Verdict, trials: u32) -> u64
+    ensures { λ r. ⌜ r ≡ packed (verdictOf verdict) trials ⌝ }
 {
+    let made = (trials as u64) * 0x1000_0000;
     match verdict {
-        Verdict::Clean(data) => data as u64,
-        Verdict::Blank { flips } => (flips as u64) * 65536 + 0x0001_0000_0000,
-        Verdict::Mended { data, flips } => (data as u64) + (flips as u64) * 65536,
-        Verdict::Lost => (Refusal::LostGrid.number() as u64) * 0x0100_0000,
+        Verdict::Clean(data) => (data as u64) + made,
+        Verdict::Blank { flips } => (flips as u64) * 65536 + 0x0001_0000_0000 + made,
+        Verdict::Mended { data, flips } => (data as u64) + (flips as u64) * 65536 + made,
+        Verdict::Lost => (Refusal::LostGrid.number() as u64) * 0x0100_0000 + made,
     }
 }
 
@@ -103,9 +105,9 @@ pub extern "C" fn grid_decode(
         let answer = Grid::of_number(words[i]).decode();
         let grid = answer.grid;
         let verdict = answer.verdict;
-        verdicts[i] = packed(verdict);
         repaired[i] = grid.number();
         patterns[i] = answer.pattern;
+        verdicts[i] = packed(verdict, answer.trials);
         i += 1;
     }
 }

@@ -1,8 +1,10 @@
--- `grid_code::lower` meets its contract: both sides are linear in the data, and agree at each data bit. Assumes nothing.
-use mathlib.Core.Path.{ap, _∙_}
-use Rattle.words.proofs.Linear.{Linear, same, _⊕_, shr, shl, low, mask, then, agree}
-use Rattle.grid_code.specs.Code.{codeword}
-use Rattle.grid_code.proofs.Codeword.{grids}
+-- `grid_code::lower` meets its contract: both sides are linear, and agree at each place. Assumes nothing.
+use mathlib.Core.Path.{sym, subst}
+use Prim.Native.Nat.{ℕ, _^_, _<_}
+use native.Mathlib.Omega.{arith}
+use Rattle.words.proofs.Linear.{Linear, same, _⊕_, shr, shl, mask, agree}
+use Rattle.grid_code.specs.Steps.{Checks}
+use Rattle.grid_code.proofs.Checks.{checks, are-checks}
 use Rattle.grid_code.proofs.lower.Statement.{statement}
 use Rattle.grid_code.proofs.lower.Tie as tie
 
@@ -17,8 +19,10 @@ abbrev made : Linear
 made = shl mixed 8 32 ⊕ shr mixed 24
 
 returns : tie.Need-returns
-unfolding codeword
-returns c d l e = ap (made .at) e ∙ agree (then (low grids 32) made) (shr grids 32) 16 tt d l
+returns c =
+    let rows : ℕ = c .args .rows in
+    let l : rows < 2 ^ 32 = c .fits .rows .fits in
+    subst (Checks rows) (sym (agree made checks 32 tt rows l)) (are-checks rows (omega arith))
 
 pub lower-spec : {M : Type 1} → statement M
 lower-spec = tie.close (tie.spec returns)

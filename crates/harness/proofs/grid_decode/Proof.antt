@@ -1,5 +1,5 @@
 -- `harness::grid_decode` meets its contract: word after word. Assumes nothing.
-use mathlib.Core.Path.{_≡_, refl, sym, ap, _∙_}
+use mathlib.Core.Path.{_≡_, refl, sym, ap, ap₂, _∙_}
 use mathlib.Core.List.{map}
 use Prim.Native.Nat.{ℕ, _-_, _≤_, _<_}
 use native.Mathlib.Omega.{arith}
@@ -12,14 +12,10 @@ use Rattle.words.proofs.Bytes.{laid-none, laid-all}
 use Rattle.words.proofs.Turns.{map-turn}
 use Rattle.codes.specs.Verdict.{scrubbed, patternOf}
 use Rattle.grid_code.specs.Code.{gridCode}
-use Rattle.grid_code.specs.Verdict.{gridVerdict}
-use Rattle.grid.proofs.Numbers.{decoded-verdict, decoded-pattern, decoded-number}
-use Rattle.harness.specs.Exports.{packed, decodes, stays}
+use Rattle.grid.proofs.Numbers.{decoded-verdict, decoded-pattern, decoded-trials, decoded-number}
+use Rattle.harness.specs.Exports.{packed, shown, decodes, stays}
 use Rattle.harness.proofs.grid_decode.Statement.{statement}
 use Rattle.harness.proofs.grid_decode.Tie as tie
-
-abbrev shown : ℕ → ℕ
-shown w = packed (gridVerdict w)
 
 abbrev put-right : ℕ → ℕ
 put-right w = scrubbed gridCode w
@@ -54,22 +50,27 @@ loop-again c =
     let of-number = c .before .before .before .before .of-number in
     let rows = of-number .result .rows in
     let decode = c .before .before .before .decode in
-    let packs = c .before .packed in
+    let packs = c .packed in
     let more : l .i < length ws = omega arith in
+    let tests = c .before .before .before .before .before .before .before .before in
+    let in-verdicts : l .i < length (now (s .args .verdicts)) = omega (arith, more, tests .before .before .if1 .left) in
+    let in-repaired : l .i < length (now (s .args .repaired)) = omega (arith, more, tests .before .if2 .left) in
+    let in-patterns : l .i < length (now (s .args .patterns)) = omega (arith, more, tests .if3 .left) in
     let small = c .before .before .before .before .before .before .before .before .before .before .before .before .before .before .shared-slice-known in
     let fits = small .given (l .i) .fits in
     let v = decoded-verdict w rows (decode .result) fits (of-number .ensures .answer) (decode .ensures) in
+    let k = decoded-trials w rows (decode .result) fits (of-number .ensures .answer) (decode .ensures) in
     let n =
-    decoded-number w (c .number .result) rows (decode .result) fits (of-number .ensures .answer) (decode .ensures) (c .number .ensures .answer) in
-    let here = map-turn shown ws (now (s .args .verdicts)) (l .i) (packs .result) more (omega arith) (packs .ensures ∙ ap packed v) in
-    let there = map-turn put-right ws (now (s .args .repaired)) (l .i) (c .number .result) more (omega arith) n in
+    decoded-number w (c .before .number .result) rows (decode .result) fits (of-number .ensures .answer) (decode .ensures) (c .before .number .ensures .answer) in
+    let here = map-turn shown ws (now (s .args .verdicts)) (l .i) (packs .result) more in-verdicts (packs .ensures ∙ ap₂ packed v k) in
+    let there = map-turn put-right ws (now (s .args .repaired)) (l .i) (c .before .number .result) more in-repaired n in
     let p = decoded-pattern w rows (decode .result) fits (of-number .ensures .answer) (decode .ensures) in
-    let beside = map-turn flipped ws (now (s .args .patterns)) (l .i) (decode .result .pattern) more (omega arith) p in (
+    let beside = map-turn flipped ws (now (s .args .patterns)) (l .i) (decode .result .pattern) more in-patterns p in (
       omega arith,
       ap (λ t. set t (l .i) (packs .result)) (l .inv .1) ∙ here,
       length-set (l .verdicts) (l .i) (packs .result) ∙ l .inv .2,
-      ap (λ t. set t (l .i) (c .number .result)) (l .inv .3) ∙ there,
-      length-set (l .repaired) (l .i) (c .number .result) ∙ l .inv .4,
+      ap (λ t. set t (l .i) (c .before .number .result)) (l .inv .3) ∙ there,
+      length-set (l .repaired) (l .i) (c .before .number .result) ∙ l .inv .4,
       ap (λ t. set t (l .i) (decode .result .pattern)) (l .inv .5) ∙ beside,
       length-set (l .patterns) (l .i) (decode .result .pattern) ∙ l .inv .6,
     )
@@ -95,6 +96,6 @@ grid-decode-spec =
     tie.close
     (tie.spec Inv-loop μ-loop returns returns-2 returns-3 (λ c. (search needs, laid-none _, refl, laid-none _, refl, laid-none _, refl))
     (λ c. search needs) (λ c. search needs) (λ c κs. search needs) (λ c κs. search needs) (λ c κs. search needs) (λ c. search needs)
-    (λ c. search needs) (λ c κs. search needs) (λ c. search needs) (λ c. search needs) (λ c. search needs) (λ c. search needs)
+    (λ c. search needs) (λ c. search needs) (λ c. search needs) (λ c κs. search needs) (λ c. search needs) (λ c. search needs)
     (λ c. search needs) (λ c. search needs) loop-again (λ c. c .before .loop .inv .2) (λ c. c .before .loop .inv .4)
     (λ c. c .before .loop .inv .6) returns-4)

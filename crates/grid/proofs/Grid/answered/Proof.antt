@@ -16,7 +16,7 @@ returns c by =
     let number = c .before .number in
     let grid = c .before .before .of-number in
     let a = c .before .before .before .args in
-    answers (a .self .rows) (a .number) (a .flips) (number .result) (bitXor (number .result) (a .number)) (grid .result .rows) (grid .ensures .answer) (number .ensures .answer) refl by
+    answers (a .self .rows) (a .number) (a .flips) (a .trials) (number .result) (bitXor (number .result) (a .number)) (grid .result .rows) (grid .ensures .answer) (number .ensures .answer) refl by
     (Blank (a .flips)) (λ d l s. sym (named-blank d (a .flips) (all-ones-is d l (sym s ∙ c .if1 .taken))))
 
 returns-2 : tie.Need-returns-2
@@ -27,7 +27,7 @@ returns-2 c by =
     let number = else .before .number in
     let grid = else .before .before .of-number in
     let a = else .before .before .before .args in
-    answers (a .self .rows) (a .number) (a .flips) (number .result) (bitXor (number .result) (a .number)) (grid .result .rows) (grid .ensures .answer) (number .ensures .answer) refl by
+    answers (a .self .rows) (a .number) (a .flips) (a .trials) (number .result) (bitXor (number .result) (a .number)) (grid .result .rows) (grid .ensures .answer) (number .ensures .answer) refl by
     (Clean (read .result)) (λ d l s.
     let is = taken-data (a .number) (taken .result) (read .result) d (taken .ensures) (read .ensures) l s in
     sym (ap (λ (n : ℕ). named (answered d n)) (c .if2 .taken) ∙ named-clean d (other-is d (a .number) s (else .if1 .left)) ∙ ap clean (sym is)))
@@ -40,7 +40,7 @@ returns-3 c by =
     let number = else .before .number in
     let grid = else .before .before .of-number in
     let a = else .before .before .before .args in
-    answers (a .self .rows) (a .number) (a .flips) (number .result) (bitXor (number .result) (a .number)) (grid .result .rows) (grid .ensures .answer) (number .ensures .answer) refl by
+    answers (a .self .rows) (a .number) (a .flips) (a .trials) (number .result) (bitXor (number .result) (a .number)) (grid .result .rows) (grid .ensures .answer) (number .ensures .answer) refl by
     (Mended (read .result) (a .flips)) (λ d l s.
     let is = taken-data (a .number) (taken .result) (read .result) d (taken .ensures) (read .ensures) l s in
     sym (ap named (some-flips d (a .flips) (c .if2 .left)) ∙ named-mended d (a .flips) (other-is d (a .number) s (else .if1 .left))
