@@ -9,7 +9,7 @@ use native.Mathlib.Omega.{arith}
 use lib.Dec.{leb}
 use lib.Seq.{ext-getD}
 use borrow.Author.Tests.{leb-true, leb-false, le-leb}
-use Rattle.words.specs.Word.{choose, dist}
+use Rattle.words.specs.Word.{choose}
 use Rattle.words.specs.Digits.{digits, joined}
 use Rattle.words.proofs.Digits.{length-digits, digits-below, joined-digits, dist-digits}
 use Rattle.words.proofs.Dist.{dist-self}

@@ -58,7 +58,8 @@ fn lower(rows: u32) -> u32
     (mixed << 8) ^ (mixed >> 24)
 }
 
-// The checks of each row, all eight rows at a time: what places 4 to 7 have beyond those of the row's data places, in places 0 to 3.
+// The checks of each row, all eight rows at a time: what places 4 to 7 have beyond those of the row's data places, in places 0 to 3. The
+// rows are made of their data places as `upper` makes four.
 pub fn row_checks(w: u64) -> u64
     ensures { λ r. ⌜ RowChecks w r ⌝ }
 {

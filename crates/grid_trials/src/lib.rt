@@ -1,6 +1,6 @@
-// The two trials of the grid's decoder. The rows are repaired (crate grid_rows) and compared with the rows as read. Where they need over
-// seven flips every codeword is further off. Where their columns hold they are a codeword. Else some rows are set aside, and the columns
-// are solved (crate grid_columns).
+// The two trials of the grid's decoder. The rows are repaired (crate grid_rows) and compared with the rows as read. Where that alone takes
+// over seven flips, so does every codeword. Where their columns hold, the repaired rows are a codeword. Else some are set aside, and rows
+// are solved from the columns (crate grid_columns).
 //
 // A trial pays 1 for a row that it sets aside and 2 for any other row that it has wrong, and gives a codeword for which it pays 3 at most:
 // its candidate. Row by row both together pay no more than the places that differ, so one of them gives a codeword within seven.
@@ -31,8 +31,8 @@ struct Given {
     flips: u32,
 }
 
-// Which rows needed flips, from the places in which they differ from the repaired rows, all eight at a time. Where a row needs two, one of
-// them is place 7 (crate grid_rows). A row that has another place set reaches bit 7 with 127 more.
+// Which rows needed flips, from the places in which they differ from the repaired rows, all eight at a time. Where a row needed two, one of
+// them is place 7, by the table of the crate grid_rows. A row that has another place set reaches place 7 with 127 more.
 fn needing(flips: u64) -> Marks
     ensures { λ m. ⌜ Needing flips (m .any) (m .two) ⌝ }
 {

@@ -1,5 +1,5 @@
 -- `grid_trials::needing` meets its contract: no row carries into the next. Assumes nothing.
-use Prim.Native.Nat.{ℕ, _+_, _^_, _≤_, _<_}
+use Prim.Native.Nat.{ℕ, _^_, _≤_, _<_}
 use native.Mathlib.Omega.{arith}
 use lib.Bits.{bitAnd, and-le-r}
 use Rattle.grid_trials.proofs.Aside.{all-others, needed}
