@@ -1,5 +1,7 @@
 // The bench of the open day: reads a card image from standard input, scrubs it in memory, and prints the title and the two tallies, or the
 // one line of a refusal. The work is in the library; this reads and writes.
+#![tactic(auto)]
+
 use libc::{STDIN_FILENO, STDOUT_FILENO};
 use lines::LinesAnswer;
 

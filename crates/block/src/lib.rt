@@ -16,6 +16,8 @@
 //
 // The crate block_code has the parities and what is proved of the code, block_words what writes, reads and flips the words.
 // specs/Calls.antt has what each call promises, and specs/Promises.antt what is proved of the calls.
+#![tactic(auto)]
+
 ghost use Rattle.std.specs.Prelude.{◌≡◌, ◌≢◌, length};
 ghost use Rattle.words.specs.Digits.{joined};
 ghost use Rattle.codes.specs.Promises.{States};

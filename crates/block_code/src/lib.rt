@@ -4,6 +4,8 @@
 // specs/Equations.antt has the parities of docs/FORMAT.md, specs/Code.antt their one solution for all data, and specs/Promises.antt what is
 // proved of the code. The type and its calls are in the crate block; each function here is a step of them, which accepts every input
 // (specs/Checks.antt, specs/Outcomes.antt).
+#![tactic(auto)]
+
 ghost use Rattle.block_code.specs.Checks.{Mixed, IsNone, OfPlace};
 
 // Row parities, column parities, and the diagonals with the system parity as bit 47.

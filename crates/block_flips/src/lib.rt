@@ -8,6 +8,8 @@
 // has the highest row: a lower one is a flipped check. And where no data place is flipped, the lowest check is.
 //
 // The public function is a step of the block's calls, which accepts every input (specs/Steps.antt).
+#![tactic(auto)]
+
 ghost use Rattle.std.specs.Prelude.{◌≡◌, ◌⊎◌, ◌+◌, ◌-◌, ◌*◌, ◌^◌, ◌≤◌, ◌<◌};
 ghost use Rattle.std.specs.Int.Bits.{bit_xor};
 ghost use Rattle.std.specs.Int.Count.{count_trailing_zeros};

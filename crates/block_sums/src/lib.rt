@@ -3,6 +3,8 @@
 //
 // The crate block_code says what the checks are. The public function is a step of the block's calls, which accepts every input
 // (specs/Steps.antt).
+#![tactic(auto)]
+
 ghost use Rattle.std.specs.Prelude.{◌≡◌, [], ◌∷◌, ℕ, ◌≤◌, ◌<◌, length, get_or};
 ghost use Rattle.words.specs.Digits.{digits, joined};
 ghost use Rattle.block_code.specs.Code.{stacked, rows_of, columns_of};

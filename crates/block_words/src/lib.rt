@@ -2,6 +2,8 @@
 //
 // The crate block_code says what a block's checks are, and block_sums sums those that data says. Each public function is a step of the
 // block's calls, which accepts every input (specs/Steps.antt).
+#![tactic(auto)]
+
 ghost use Rattle.std.specs.Prelude.{◌≡◌, ◌^◌, ◌≤◌, ◌<◌, length};
 ghost use Rattle.std.proofs.lemmas.List.Edits.{sets};
 ghost use Rattle.std.proofs.Math.Seq.{paste};

@@ -4,6 +4,8 @@
 //
 // specs/Calls.antt says what the call answers and leaves, and specs/Answer.antt what the answer says. What is shown of a grid is in the
 // crate value_read (docs/FORMAT.md, Reading back).
+#![tactic(auto)]
+
 ghost use Rattle.card_read.specs.Calls.{Read};
 ghost use Rattle.card_read.specs.Steps.{ReadsGrids, ReadsFields, ReadFirst};
 

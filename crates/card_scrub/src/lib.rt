@@ -5,6 +5,8 @@
 // refusal of the call. What was counted in each is added up, and the pattern of the last mended grid of all is passed on.
 //
 // specs/Calls.antt says what the call answers and leaves, and specs/Answer.antt what the answer says.
+#![tactic(auto)]
+
 ghost use Rattle.std.specs.Prelude.{◌≡◌, []};
 ghost use Rattle.codes.specs.Steps.{plus};
 ghost use Rattle.image.specs.Steps.{Walks};

@@ -1,6 +1,8 @@
 // The writer of card images: title, one grids field, end, laid over the front of a slice.
 //
 // specs/Calls.antt says what the call answers and leaves, and specs/Answer.antt what the answer says.
+#![tactic(auto)]
+
 ghost use Rattle.std.specs.Prelude.{◌≡◌, map, ◌++◌, ◌+◌, ◌*◌, ◌≤◌, ◌<◌, length};
 ghost use Rattle.words.specs.Bytes.{bytes_of, laid};
 ghost use Rattle.grid_code.specs.Code.{codeword};

@@ -9,6 +9,8 @@
 // says.
 //
 // specs/Fields.antt has the rules, specs/Calls.antt what each call promises, and specs/Promises.antt what is proved of it.
+#![tactic(auto)]
+
 ghost use Rattle.std.specs.Prelude.{◌≡◌, ◌≤◌, ◌<◌, length};
 ghost use Rattle.fields.specs.Calls.{Classified, Searched, Measured};
 ghost use Rattle.fields.specs.Fields.{head_bytes, size, is_title, is_grids, other_field};

@@ -21,6 +21,8 @@
 //
 // The crate grid_code has the parities and what is proved of the code, specs/Calls.antt what each call promises, and specs/Promises.antt
 // what is proved of the calls. As a number a grid has row r in byte r, lowest byte first, and place c of a row in bit c.
+#![tactic(auto)]
+
 ghost use Rattle.codes.specs.Promises.{States};
 ghost use Rattle.grid_code.specs.Code.{code_of_grid};
 ghost use Rattle.grid_trials.specs.Steps.{Nearby};

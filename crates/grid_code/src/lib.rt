@@ -3,6 +3,8 @@
 // specs/Equations.antt has the parities of docs/FORMAT.md, specs/Code.antt their one solution for each data value, specs/Verdict.antt the
 // verdict on a grid, in which an erased one is blank, and specs/Promises.antt what is proved of the code. The type and its calls are in the
 // crate grid; the functions here are steps of them (specs/Steps.antt).
+#![tactic(auto)]
+
 ghost use Rattle.std.specs.Prelude.{◌≡◌, ◌%◌, ◌^◌};
 ghost use Rattle.grid_code.specs.Equations.{data_of};
 ghost use Rattle.grid_code.specs.Code.{codeword};

@@ -4,6 +4,8 @@
 // specs/Columns.antt says what a caller gets, specs/Steps.antt what the steps in between compute. A row that is wrong shows in the four
 // checks of the columns (grid_code::column_checks): its error stands in each check that the row takes part in. No two rows take part in the
 // same checks.
+#![tactic(auto)]
+
 ghost use Rattle.std.specs.Prelude.{◌≡◌, ◌≢◌, suc, ◌*◌, ◌^◌, ◌<◌, get_or};
 ghost use Rattle.std.specs.Int.Bits.{bit_xor};
 ghost use Rattle.words.specs.Word.{bit, picked, sum_to};

@@ -2,6 +2,8 @@
 // flip is undone, and of two it is known that there are two.
 //
 // specs/Rows.antt says what each public function computes, and what a repaired row is.
+#![tactic(auto)]
+
 ghost use Rattle.std.specs.Prelude.{◌≡◌, ◌+◌, ◌*◌, ◌%◌, ◌^◌, ◌<◌};
 ghost use Rattle.grid_rows.specs.Rows.{Packed, Unpacked, RepairedRows};
 

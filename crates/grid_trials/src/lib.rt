@@ -4,6 +4,8 @@
 //
 // A trial pays 1 for a row that it sets aside and 2 for any other row that it has wrong, and gives a codeword for which it pays 3 at most:
 // its candidate. Row by row both together pay no more than the places that differ, so one of them gives a codeword within seven.
+#![tactic(auto)]
+
 ghost use Rattle.std.specs.Prelude.{ℕ};
 ghost use Rattle.grid_trials.specs.Steps.{Needing, Repaired, Marked, Tried, Decided, Nearby};
 

@@ -1,4 +1,6 @@
 // The library's calls on plain numbers, for the tests and for counting instructions. No part of the product.
+#![tactic(auto)]
+
 ghost use Rattle.std.specs.Prelude.{◌≡◌, get_or};
 ghost use Rattle.words.specs.Digits.{digits};
 ghost use Rattle.grid_code.specs.Code.{code_of_grid};

@@ -1,5 +1,7 @@
 // The calls on a card image, on plain numbers, for the tests and for counting instructions. No part of the product. A crate of its own, so
 // that the archives of the others stay small.
+#![tactic(auto)]
+
 ghost use Rattle.std.specs.Prelude.{◌≡◌, ◌≤◌};
 ghost use Rattle.refusals.specs.Reply.{numbered};
 ghost use Rattle.image.specs.declared.CheckAnswer.{CheckAnswer};

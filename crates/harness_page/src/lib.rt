@@ -1,5 +1,7 @@
 // The scrub of a page on plain numbers, for the tests and for counting instructions. No part of the product. A crate of its own, so that
 // its archive has no other use of the decoder.
+#![tactic(auto)]
+
 ghost use Rattle.harness_page.specs.Exports.{Exported};
 
 use page::PageAnswer;

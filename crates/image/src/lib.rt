@@ -5,6 +5,8 @@
 //
 // specs/Card.antt has what an image holds and where it is broken, specs/Calls.antt what each call promises, and specs/Promises.antt what is
 // proved of it.
+#![tactic(auto)]
+
 ghost use Rattle.std.specs.Prelude.{◌≡◌, ◌≤◌, length, drop};
 ghost use Rattle.image.specs.Calls.{Checked, TitleGiven};
 ghost use Rattle.image.specs.Card.{most_bytes, data_fields, walk};

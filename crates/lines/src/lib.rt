@@ -3,6 +3,8 @@
 // Each step lays its bytes behind those that stand already, from a place on, and returns the place behind its own.
 //
 // specs/Text.antt has the lines, specs/Calls.antt what the call answers and leaves, and specs/Promises.antt what is proved of it.
+#![tactic(auto)]
+
 ghost use Rattle.std.specs.Prelude.{◌++◌, ◌+◌, ◌≤◌, length};
 ghost use Rattle.fields.specs.Fields.{title_most};
 ghost use Rattle.lines.specs.Text.{decimal, title_line, grids_line, blocks_line, place_text, refused_line};

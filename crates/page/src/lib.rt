@@ -2,6 +2,8 @@
 // all ones, and clean and lost ones stay as they are. What is counted is returned, with the pattern of the last mended grid.
 //
 // specs/Tally.antt says what is counted, specs/Calls.antt what a scrub answers and leaves, and specs/Promises.antt what is proved of it.
+#![tactic(auto)]
+
 ghost use Rattle.std.specs.Prelude.{◌≡◌, map, ◌≤◌, length};
 ghost use Rattle.codes.specs.Verdict.{scrubbed, pattern_of};
 ghost use Rattle.grid_code.specs.Code.{code_of_grid};

@@ -2,6 +2,8 @@
 // of these, and a refusal passes through its callers whole.
 //
 // specs/Reply.antt has the table, and what an answer says in its terms; specs/Calls.antt what each call here promises.
+#![tactic(auto)]
+
 ghost use Rattle.refusals.specs.Calls.{TableNumber, TablePlace};
 
 // A case for each number of the table. Broken has the place of the break: an offset in an image, or a byte's place in a title.

@@ -2,6 +2,8 @@
 //
 // specs/Shown.antt says what is shown of a grid. The public function accepts every input, and does nothing where there is no room;
 // specs/Steps.antt says so.
+#![tactic(auto)]
+
 ghost use Rattle.std.specs.Prelude.{◌≡◌};
 ghost use Rattle.words.specs.Digits.{joined};
 ghost use Rattle.value_read.specs.Shown.{data_of_grid, flips_of_grid};

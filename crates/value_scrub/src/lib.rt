@@ -3,6 +3,8 @@
 //
 // specs/Tally.antt says what is counted of blocks, and the scrub of a card image cites it. specs/Steps.antt says what each step does; no
 // promise to a caller cites it.
+#![tactic(auto)]
+
 ghost use Rattle.std.specs.Prelude.{◌≡◌, ◌*◌, ◌%◌, ◌<◌, ◌≤◌, length};
 ghost use Rattle.page.specs.Calls.{most_grids};
 ghost use Rattle.page.specs.Steps.{later};

@@ -2,6 +2,8 @@
 // input: where the lengths do not fit, nothing is written.
 //
 // specs/Steps.antt says what each of them does. No promise to a caller cites this crate.
+#![tactic(auto)]
+
 ghost use Rattle.std.specs.Prelude.{◌≡◌, ◌≤◌, length, take};
 ghost use Rattle.words.specs.Digits.{digits, joined};
 ghost use Rattle.words.specs.Bytes.{laid};
