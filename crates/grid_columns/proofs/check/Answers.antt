@@ -3,7 +3,6 @@ use native.Mathlib.Omega.{arith}
 use Prim.Native.Nat.{ℕ, ◌*◌, ◌/◌, ◌^◌}
 use lib.Bits.{and_le_r}
 use lib.Dec.{eqb}
-use borrow.Author.Rules.{rules}
 use Rattle.words.proofs.Linear.{Linear, same, shr, mask, digit, agree}
 use Rattle.words.proofs.Test.{all_below, at_below}
 use Rattle.grid_columns.proofs.check.Goals as goal

@@ -1,7 +1,6 @@
 -- `grid_columns::if_set` meets its contract. Assumes nothing.
 use mathlib.Core.Path.{◌≡◌, refl}
 use Prim.Native.Nat.{ℕ, zero, suc}
-use borrow.Author.Rules.{rules}
 use Rattle.words.specs.Word.{picked}
 use Rattle.grid_columns.proofs.if_set.Goals as goal
 

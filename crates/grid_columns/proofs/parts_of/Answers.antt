@@ -1,6 +1,5 @@
 -- `grid_columns::parts_of` meets its contract. Assumes nothing.
 use native.Mathlib.Omega.{arith}
-use borrow.Author.Rules.{rules}
 use Rattle.grid_columns.proofs.Errors.{parts_lt}
 use Rattle.grid_columns.proofs.parts_of.Goals as goal
 

@@ -1,6 +1,5 @@
 -- `grid_columns::row_with` meets its contract. Assumes nothing.
 use native.Mathlib.Omega.{arith}
-use borrow.Author.Rules.{rules}
 use Rattle.grid_columns.proofs.Errors.{row_lt}
 use Rattle.grid_columns.proofs.row_with.Goals as goal
 

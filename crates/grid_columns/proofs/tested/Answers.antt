@@ -1,6 +1,5 @@
 -- `grid_columns::tested` meets its contract. Assumes nothing.
 use mathlib.Core.Path.{refl}
-use borrow.Author.Rules.{rules}
 use Rattle.grid_columns.proofs.tested.Goals as goal
 
 pub returns-then-hold : goal.returns-then-hold

@@ -9,7 +9,7 @@ use Rattle.words.proofs.Bit.{bit-cases, bit_lt}
 use Rattle.words.proofs.Digits.{digits_below}
 use Rattle.grid_code.proofs.Checks.{checks, checks_is}
 use Rattle.grid_columns.specs.Steps.{Paired}
-use Rattle.grid_columns.proofs.Errors.{check, parts_of, evened, three_by_j, three_by_k}
+use Rattle.grid_columns.proofs.Errors.{check, parts_of, three_by_j, three_by_k}
 use Rattle.grid_columns.proofs.three.Goals as goal
 
 byte : (e at : ℕ) {r : ℕ} → r ≡ check e at → r < 256
