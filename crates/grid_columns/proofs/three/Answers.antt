@@ -19,18 +19,6 @@ byte e at p = subst (λ (x : ℕ). x < 256) (sym p) (digits_below 8 4 e at)
 tested : (i j at : ℕ) {a b : ℕ} → a ≡ parts_of i → b ≡ parts_of j → bit_and (bit_xor a b / 2 ^ at) 1 ≡ bit (bit_xor (parts_of i) (parts_of j)) at
 tested i j at {a} {b} p q = and_mask (bit_xor a b / 2 ^ at) 1 ∙ ap (λ (x : ℕ). bit x at) (ap₂ bit_xor p q)
 
-pub flipped-requires : goal.flipped-requires
-flipped-requires c = (byte c.column_checks.result c.check_of_one-at.result c.check-error.ensures, c.requires.0)
-
-pub flipped-requires-then-parts_of-at-eq1 : goal.flipped-requires-then-parts_of-at-eq1
-flipped-requires-then-parts_of-at-eq1 c = (byte c.column_checks.result c.check_of_one-at.result c.check-error.ensures, c.requires.1)
-
-pub flipped-requires-2 : goal.flipped-requires-2
-flipped-requires-2 c = (byte c.column_checks.result c.check_of_one-at.result c.check-error.ensures, c.requires.0)
-
-pub flipped-requires-3 : goal.flipped-requires-3
-flipped-requires-3 c = (byte c.column_checks.result c.check_of_one-at.result c.check-error.ensures, c.requires.2)
-
 pub returns-then-parts_of-at-eq1 : goal.returns-then-parts_of-at-eq1
 returns-then-parts_of-at-eq1 c =
     let error = c.check-error in
