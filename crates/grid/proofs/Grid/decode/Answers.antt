@@ -2,15 +2,14 @@
 use mathlib.Core.Path.{subst}
 use mathlib.Core.List.{List}
 use Prim.Native.Nat.{ℕ}
-use borrow.Author.Rules.{rules}
 use Rattle.grid.specs.Calls.{Judged}
 use Rattle.grid.proofs.Verdicts.{is_codeword}
 use Rattle.grid.proofs.Grid.decode.Goals as goal
 
-pub returns : goal.returns
-returns c =
+pub returns-then-is_codeword : goal.returns-then-is_codeword
+returns-then-is_codeword c =
     let s = c in
     let rows : List ℕ = s.args.self.rows in
     let number = c.number in
     c.answered.ensures
-    (is_codeword rows number.result number.ensures.answer (subst (Judged rows) s.if1.true s.is_codeword.ensures))
+    (is_codeword rows number.result number.ensures.answer (subst (Judged rows) s.if-is_codeword.true s.is_codeword.ensures))

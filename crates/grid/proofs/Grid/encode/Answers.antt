@@ -34,13 +34,17 @@ encoded d rows h ne e = record {
   meets = λ z. subst (Codeword d) (sym (ap (joined 8) e ∙ joined-digits 8 8 (codeword d) (is_codeword d h).fits)) (is_codeword d h);
 }
 
-pub returns : goal.returns
-returns c = (refused c.args.value (digits 8 8 0) c.if1.true refl, promised.constants)
+pub returns-then-value-eq-ERASED : goal.returns-then-value-eq-ERASED
+returns-then-value-eq-ERASED c = record {
+  encoded = refused c.args.value (digits 8 8 0) c.if-value-eq-ERASED.true refl;
+  constants = promised.constants;
+}
 
-pub returns-2 : goal.returns-2
-returns-2 c =
+pub returns : goal.returns
+returns c =
     let d : ℕ = c.args.value in
-    let l : d < 2 ^ 16 = search rules in (
-      encoded d c.of_number.result.rows l c.if1.false (c.of_number.ensures.answer ∙ ap (digits 8 8) c.encoded.ensures.answer),
-      promised.constants,
-    )
+    let l : d < 2 ^ 16 = search rules in
+    record {
+      encoded = encoded d c.of_number.result.rows l c.if-value-eq-ERASED.false (c.of_number.ensures.answer ∙ ap (digits 8 8) c.encoded.ensures.answer);
+      constants = promised.constants;
+    }

@@ -10,15 +10,15 @@ use Rattle.grid_trials.specs.Steps.{Nearby}
 use Rattle.grid.proofs.Verdicts.{is_lost_lem}
 use Rattle.grid.proofs.Grid.mend.Goals as goal
 
-pub returns : goal.returns
-returns c =
+pub returns-in_default : goal.returns-in_default
+returns-in_default c =
     let rows : List ℕ = c.args.self.rows in
     let small : (i : ℕ) → Fits w8 (get_or rows i 0) = λ i. search rules in
     let found = c.nearest in
-    is_lost_lem rows found.result found.ensures c.enum_told.given.1 (search rules) (λ i. (small i).fits)
+    is_lost_lem rows found.result found.ensures c.in_default.is (search rules) (λ i. (small i).fits)
 
-pub returns-2 : goal.returns-2
-returns-2 c =
+pub returns : goal.returns
+returns c =
     let s = c in
     let found = s.nearest in
-    c.answered.ensures (subst (Nearby s.args.self.rows) s.number.given.1 found.ensures)
+    c.answered.ensures (subst (Nearby s.args.self.rows) c.in-Within.is found.ensures)
