@@ -1,23 +1,15 @@
-use mathlib.Core.Path.{◌≡◌, refl, sym, ap, ◌∙◌}
-use mathlib.Core.Logic.{⊎_elim}
-use mathlib.Core.List.{List}
-use Prim.Native.Nat.{ℕ, ◌+◌, ◌-◌, ◌≤◌, ◌<◌}
-use native.Mathlib.Omega.{arith}
-use lib.ListN.{length, set, take, length-set}
-use lib.Seq.{take_all, set-get_or}
-use borrow.Author.Rules.{rules}
-use Rattle.words.proofs.Lists.{partly, partly_none, partly_all}
+-- Grid after grid, by the laws of a turn.
+use Rattle.std.proofs.Common.{◌≡◌, ◌-◌, ◌≤◌, length, take}
+use Rattle.words.proofs.Lists.{partly}
 use Rattle.codes.specs.Verdict.{scrubbed}
-use Rattle.codes.specs.Tally.{sum_by}
 use Rattle.grid_code.specs.Code.{code_of_grid}
-use Rattle.page.specs.Tally.{last_from, grid_tally}
-use Rattle.page.proofs.Laws.{turn_page, turn_tally, turn_roomy}
+use Rattle.page.specs.Tally.{grid_tally}
 use Rattle.page.proofs.each.Given as goal
 
-abbrev pub invariant-loop-VAR : goal.invariant-loop-VAR
-invariant-loop-VAR page₀ tally₀ i₀ page tally i =
-    (i ≤ length page₀) × (page ≡ partly (scrubbed code_of_grid) i page₀) × (tally ≡ grid_tally (take i page₀)) × (length page ≡ length page₀)
+abbrev pub invariant-loop-i : goal.invariant-loop-i
+invariant-loop-i l =
+    (l.i ≤ length l.initial.page) × (l.page ≡ partly (scrubbed code_of_grid) l.i l.initial.page)
+    × (l.tally ≡ grid_tally (take l.i l.initial.page)) × (length l.page ≡ length l.initial.page)
 
-
-abbrev pub decreases-loop-VAR : goal.decreases-loop-VAR
-decreases-loop-VAR page₀ tally₀ i₀ page tally i = length page₀ - i
+abbrev pub decreases-loop-i : goal.decreases-loop-i
+decreases-loop-i l = length l.initial.page - l.i
