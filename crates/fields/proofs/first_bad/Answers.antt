@@ -1,17 +1,7 @@
 -- `fields::first_bad` meets its contract. Assumes nothing.
 use Rattle.std.proofs.Common.{get_or, arith}
-use Rattle.fields.proofs.Titles.{low, high, fine, bad_here, bad_later, bad_none}
+use Rattle.fields.proofs.Titles.{fine, bad_later, bad_none}
 use Rattle.fields.proofs.first_bad.Goals as goal
-
-pub returns-then-b-lt32 : goal.returns-then-b-lt32
-returns-then-b-lt32 c = record {
-  answer = omega (arith, bad_here c.args.bytes.now c.loop-i.i (omega arith) (low (get_or c.args.bytes.now c.loop-i.i 0) (omega arith)));
-}
-
-pub returns-then-b-gt126 : goal.returns-then-b-gt126
-returns-then-b-gt126 c = record {
-  answer = omega (arith, bad_here c.args.bytes.now c.loop-i.i (omega arith) (high (get_or c.args.bytes.now c.loop-i.i 0) (omega arith)));
-}
 
 pub loop-i-preserved : goal.loop-i-preserved
 loop-i-preserved c =

@@ -2,18 +2,12 @@
 use Rattle.std.proofs.Common.{◌≡◌, ◌+◌, ◌-◌, ◌≤◌, ℕ, List, length, take, drop, arith, ap, sym, ◌∙◌}
 use Rattle.fields.specs.declared.Field.TheVariants.{Title}
 use Rattle.fields.specs.Fields.{tag, size, value, is_title, other_field}
-use Rattle.fields.proofs.Fields.{value_is, past_end, title_found, no_title, other}
+use Rattle.fields.proofs.Fields.{value_is, title_found, no_title, other}
 use Rattle.fields.proofs.front.Goals as goal
 
 -- the value of a field of n bytes
 title_asked : (s : List ℕ) (n : ℕ) → n ≡ size s → is_title (value s) ≡ is_title (take (3 + n - 3) (drop 3 s))
 title_asked s n e = ap is_title (sym (value_is s n (sym e)))
-
-pub returns-then-rest-lt-HEAD : goal.returns-then-rest-lt-HEAD
-returns-then-rest-lt-HEAD c = record { answer = sym (past_end c.args.rest.now (omega arith)) }
-
-pub returns-then-rest-end : goal.returns-then-rest-end
-returns-then-rest-end c = record { answer = sym (past_end c.args.rest.now (omega arith)) }
 
 pub returns-then-is_title : goal.returns-then-is_title
 returns-then-is_title c =
