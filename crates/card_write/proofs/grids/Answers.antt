@@ -2,7 +2,7 @@
 use Rattle.std.proofs.Common.{◌≡◌, map, ◌-◌, ◌*◌, ◌≤◌, ◌<◌, refl, sym, ap, ◌∙◌, arith, length, get_or, take, drop}
 use lib.ListN.{length-map}
 use Rattle.words.specs.Digits.{digits}
-use Rattle.words.specs.Bytes.{bytes_of, laid}
+use Rattle.words.specs.Bytes.{laid}
 use Rattle.words.proofs.Digits.{length_digits}
 use Rattle.words.proofs.Lists.{length_part, map_get_d}
 use Rattle.words.proofs.Turns.{no_words, word_turn, length_turn}
