@@ -2,17 +2,20 @@
 // one line of a refusal. The work is in the library; this reads and writes.
 #![tactic(auto)]
 
-use libc::{STDIN_FILENO, STDOUT_FILENO};
 use lines::LinesAnswer;
+use std::io;
+use std::io::{Read, Write};
 
 // One byte more than the longest image is read, so that a longer one is told from it. The text has room for every answer, so that the call
 // does not refuse it.
-fn main() {
-    let mut buffer = [0u8; image::MOST_BYTES + 1];
+fn main(rt: HostRuntime) -> io::Result<()> {
+    let mut buffer = Vec::new(rt.alloc());
     let mut text = [0u8; lines::ROOM];
-    let n = io::read_full(STDIN_FILENO, &mut buffer);
-    let LinesAnswer::Done(many) = lines::scrub(&mut buffer[..n], &mut text) else {
-        return;
+    rt.reader()
+        .take(image::MOST_BYTES as u64 + 1)
+        .read_to_end(&mut buffer)?;
+    let LinesAnswer::Done(many) = lines::scrub(&mut buffer, &mut text) else {
+        return Ok(());
     };
-    io::write_all(STDOUT_FILENO, &text[..many]);
+    io::writer(&rt).write_all(&text[..many])
 }
