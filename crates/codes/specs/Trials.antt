@@ -3,7 +3,7 @@
 use Rattle.std.specs.Prelude.{◌≡◌, ◌⊎◌, Bool, false, ◌&&◌, ◌||◌, ℕ, zero, suc, ◌+◌, ◌*◌, ◌^◌, ◌≤◌, ◌<◌, leb, get_or}
 use Rattle.words.specs.Word.{choose, bit, dist, sum_to}
 use Rattle.words.specs.Digits.{digits}
-use Rattle.codes.specs.Verdict.{Code, Verdict, clean, lost, off, verdict}
+use Rattle.codes.specs.Verdict.{Code, clean, lost, off, verdict}
 use Rattle.codes.specs.Product.{Sides, InProduct, Same, unlike, places_apart, Distance4}
 
 -- `fix` repairs a row: it gives a row of the row code at most two flips away. In a code of distance 4 none is nearer, and what a row needs
