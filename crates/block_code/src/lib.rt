@@ -9,7 +9,7 @@
 ghost use Rattle.block_code.specs.Checks.{Mixed, IsNone, OfPlace};
 
 // Row parities, column parities, and the diagonals with the system parity as bit 47.
-#[derive(Drop)]
+#[derive(Clone, Copy)]
 pub struct Checks {
     pub rows: u32,
     pub columns: u16,

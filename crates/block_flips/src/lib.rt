@@ -18,7 +18,7 @@ ghost use Rattle.block_flips.specs.Steps.{lowest_of, Explained, OnlyPlace, Attem
 use block_code::Checks;
 
 // The places of the flips, of two the lower first.
-#[derive(Drop)]
+#[derive(Clone, Copy)]
 pub enum Flips {
     One(usize),
     Two(usize, usize),

@@ -45,6 +45,7 @@ fn size(rest: &[u8]) -> usize
 }
 
 // The place of the first byte that no title has, or the length where there is none.
+#[tactic(auto, using(crate::proofs::Titles::low, crate::proofs::Titles::bad_here, crate::proofs::Titles::high))]
 pub fn first_bad(bytes: &[u8]) -> usize
     ensures { Searched bytes.now result }
 {
@@ -118,6 +119,7 @@ fn other_field(tag: u8, n: usize) -> Field
 }
 
 // The field at the front of a slice.
+#[tactic(auto, using(crate::proofs::Fields::past_end))]
 pub fn front(rest: &[u8]) -> Field
     ensures { Classified rest.now result }
 {

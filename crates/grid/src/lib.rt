@@ -32,7 +32,7 @@ ghost use Rattle.grid.specs.Calls.{Encoded, Numbered, Parted, Judged, Decoded};
 use grid_trials::Near;
 use refusals::Refusal;
 
-#[derive(Drop)]
+#[derive(Clone, Copy)]
 pub struct Grid {
     pub rows: [u8; 8],
 }
@@ -81,7 +81,7 @@ impl Grid {
     // The grid of a data value. RADIUS, LENGTH and DISTANCE are the code's own.
     pub fn encode(value: u16) -> Encoding
         ensures encoded { Encoded value result }
-        ensures* constants { do ⌜ States code_of_grid (← (⟦Grid::RADIUS⟧).entry) (← (⟦Grid::LENGTH⟧).entry) (← (⟦Grid::DISTANCE⟧).entry) ⌝ }
+        ensures constants { States code_of_grid Grid.RADIUS Grid.LENGTH Grid.DISTANCE }
     {
         if value == grid_code::ERASED {
             return Encoding {

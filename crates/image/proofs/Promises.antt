@@ -1,7 +1,7 @@
 -- The promises of an image. A card's front decides what is found, by what stands behind it; every image starts with such a front or with no
 -- title, and so is the image of a card or has a break, and what is found tells which. Assumes nothing.
 use mathlib.Core.Path.{◌≡◌, refl, sym, ap, ◌∙◌, subst}
-use mathlib.Core.Logic.{◌≢◌, ◌⊎◌, inl, inr}
+use mathlib.Core.Logic.{◌⊎◌, inl, inr}
 use mathlib.Core.List.{List, [], ◌∷◌, ◌++◌, append_assoc, append-nil}
 use Prim.Native.Nat.{ℕ, ◌+◌, ◌-◌}
 use native.Mathlib.Omega.{arith}
@@ -14,10 +14,10 @@ use Rattle.fields.specs.declared.Field.TheVariants.{Title, Grids, Block, End, Fa
 use Rattle.fields.specs.Fields.{field_of}
 use Rattle.fields.proofs.Fields.{past_end, known, found_end}
 use Rattle.image.specs.declared.CheckAnswer.TheVariants.{Refused}
-use Rattle.image.specs.Card.{Part, Card, Found, sound, broken, before, walk, under_title, titled, card_of, head, front_of, image_of}
+use Rattle.image.specs.Card.{Part, Card, Found, sound, broken, before, walk, under_title, card_of, head, front_of, image_of}
 use Rattle.image.specs.Answer.{means}
 use Rattle.image.specs.Promises.{Proper, Break, no_title, fails, repeated, seventeenth, behind_end, ImagePromises, OneOutcome}
-use Rattle.image.proofs.Walking.{full_grids, full_block, walk_end, walk-behind, walk_title, walk_fails}
+use Rattle.image.proofs.Walking.{full_grids, full_block, walk_end, walk-behind, walk_title, walk_fails, untitled}
 use Rattle.image.proofs.Shape.{stands_front, before_all, card_over, split, DataAt, Fronted, title_back}
 use Rattle.image.proofs.Checking.{checked_long, checked_found, grids_and_blocks, title_given}
 
@@ -69,17 +69,6 @@ module _ (c : Card) (h : Proper c) where
       stops : DataAt rest → walk 0 at rest ≡ broken at
       stops (inl (n, e)) = full_grids at rest n e
       stops (inr e) = full_block at rest e
-
-untitled : (s : List ℕ) → ((n : ℕ) → field_of s ≢ Title n) → card_of s ≡ broken 0
-unfolding card_of
-untitled s h = go (field_of s) h
-  where
-    go : (f : Field) → ((n : ℕ) → f ≢ Title n) → titled s f ≡ broken 0
-    go (Title n) h = absurd (h n refl)
-    go (Grids n) h = refl
-    go Block h = refl
-    go End h = refl
-    go Fails h = refl
 
 found : {s : List ℕ} {place : ℕ} → Break s place → card_of s ≡ broken place
 found {s} (no_title h) = untitled s h

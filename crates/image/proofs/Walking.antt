@@ -1,13 +1,11 @@
 -- A walk over the fields, step by step, and what it counts. Assumes nothing.
 use mathlib.Core.Path.{◌≡◌, refl, sym, ap, ap₂, ◌∙◌}
-use mathlib.Core.Logic.{⊎_elim}
+use mathlib.Core.Logic.{◌≢◌}
 use mathlib.Core.List.{List, [], ◌∷◌, ◌++◌}
 use Prim.Native.Nat.{ℕ, zero, suc, ◌+◌, ◌/◌}
 use native.Mathlib.Nat.{zero-add}
 use native.Mathlib.Omega.{arith}
 use lib.ListN.{length, drop, length-append}
-use types.Run.{OneOf}
-use denote.Enum.Declared.{tag_of}
 use borrow.Author.Tests.{eq-eqb, ne_eqb}
 use Rattle.words.specs.Word.{choose}
 use Rattle.words.specs.Bytes.{words_in}
@@ -16,11 +14,10 @@ use Rattle.refusals.specs.declared.Refusal.TheVariants.{Broken}
 use Rattle.fields.specs.declared.Field.{Field}
 use Rattle.fields.specs.declared.Field.TheVariants.{Title, Grids, Block, End, Fails}
 use Rattle.fields.specs.Fields.{value, field_of}
-use Rattle.fields.specs.contracts.Field.{the_type}
 use Rattle.fields.proofs.Fields.{known}
 use Rattle.image.specs.declared.CheckAnswer.TheVariants.{Done, Refused}
 use Rattle.image.specs.Card.{Part, grids, block, Card, Found, sound, broken, grids_in, blocks_in, grids_at, block_at, before, follow, walk, under_title, titled, card_of}
-use Rattle.image.specs.Calls.{by_found, counts, title_in}
+use Rattle.image.specs.Calls.{by_found, counts}
 use Rattle.image.specs.Steps.{found_after}
 
 -- ---- what is counted
@@ -102,17 +99,17 @@ unfolding card_of
 card_titled s n e =
     ap (titled s) e ∙ ap (λ (k : ℕ). under_title (value s) (walk 16 (3 + n) (drop (3 + k) s))) (known s e).0.size_is
 
--- a first field that is no title, as the last arm of a match has it
-pub untitled : (s : List ℕ) (f : Field) → OneOf (1 ∷ 2 ∷ 3 ∷ 4 ∷ []) (tag_of the_type f) → (titled s f ≡ broken 0) × (title_in s f ≡ [])
-untitled s (Title n) k = absurd (⊎_elim (λ e. omega (arith, e)) (⊎_elim (λ e. omega (arith, e)) (⊎_elim (λ e. omega (arith, e)) (λ e. omega (arith, e)))) k)
-untitled s (Grids n) k = (refl, refl)
-untitled s Block k = (refl, refl)
-untitled s End k = (refl, refl)
-untitled s Fails k = (refl, refl)
-
-pub card_none : (s : List ℕ) (f : Field) → f ≡ field_of s → OneOf (1 ∷ 2 ∷ 3 ∷ 4 ∷ []) (tag_of the_type f) → card_of s ≡ broken 0
+-- a first field that is no title
+pub untitled : (s : List ℕ) → ((n : ℕ) → field_of s ≢ Title n) → card_of s ≡ broken 0
 unfolding card_of
-card_none s f e k = sym (ap (titled s) e) ∙ (untitled s f k).0
+untitled s h = go (field_of s) h
+  where
+    go : (f : Field) → ((n : ℕ) → f ≢ Title n) → titled s f ≡ broken 0
+    go (Title n) h = absurd (h n refl)
+    go (Grids n) h = refl
+    go Block h = refl
+    go End h = refl
+    go Fails h = refl
 
 pub after_whole : (title : List ℕ) (x : Found (List Part))
     → by_found (λ at. Refused (Broken at)) (λ (c : Card). counts c.parts) (under_title title x) ≡ found_after 0 0 x

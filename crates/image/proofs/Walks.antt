@@ -1,20 +1,17 @@
 -- A walk over fields that are found sound, step by step: what stands at the front, what behind it, and how much there is. Assumes nothing.
 use mathlib.Core.Path.{◌≡◌, refl, sym, ap, ◌∙◌, subst}
-use mathlib.Core.Logic.{⊎_elim}
+use mathlib.Core.Logic.{◌≢◌}
 use mathlib.Core.List.{List, [], ◌∷◌, ◌++◌}
 use Prim.Native.Nat.{ℕ, zero, suc, ◌+◌, ◌*◌, ◌/◌, ◌≤◌}
 use native.Mathlib.Decide.{ℕ_discrete}
 use native.Mathlib.Omega.{arith}
 use lib.ListN.{length, take, drop, length-append, length-drop}
-use types.Run.{OneOf}
-use denote.Enum.Declared.{tag_of}
 use Rattle.words.specs.Digits.{Below}
 use Rattle.words.specs.Bytes.{words_in}
 use Rattle.words.proofs.Bytes.{length-words}
 use Rattle.fields.specs.declared.Field.{Field}
 use Rattle.fields.specs.declared.Field.TheVariants.{Title, Grids, Block, End, Fails}
 use Rattle.fields.specs.Fields.{size, value, field_of}
-use Rattle.fields.specs.contracts.Field.{the_type}
 use Rattle.fields.proofs.Fields.{known}
 use Rattle.image.specs.Card.{Part, Found, sound, broken, grids_in, blocks_in, grids_at, block_at, before, walk, head}
 use Rattle.image.proofs.Walking.{walk_grids, walk_block, full_grids, full_block, walk_end, walk-behind, walk_title, walk_fails}
@@ -59,12 +56,12 @@ module _ (at : ℕ) (s : List ℕ) (ps : List Part) where
       go (no l) = never (sym (walk-behind at s left f l) ∙ e)
 
   -- .. as the last arm of a match has it: nothing but the end is left
-  pub only_end : (left : ℕ) (f : Field) → f ≡ field_of s → OneOf (0 ∷ 3 ∷ 4 ∷ []) (tag_of the_type f) → Below 8 s → walk left at s ≡ sound ps
+  pub only_end : (left : ℕ) (f : Field) → f ≡ field_of s → ((n : ℕ) → f ≢ Grids n) → f ≢ Block → Below 8 s → walk left at s ≡ sound ps
       → (ps ≡ []) × (s ≡ head 127 0)
-  only_end left (Title n) f k b e = never (sym (walk_title at s left n (sym f)) ∙ e)
-  only_end left (Grids n) f k b e = absurd (⊎_elim (λ e. omega (arith, e)) (⊎_elim (λ e. omega (arith, e)) (λ e. omega (arith, e))) k)
-  only_end left Block f k b e = absurd (⊎_elim (λ e. omega (arith, e)) (⊎_elim (λ e. omega (arith, e)) (λ e. omega (arith, e))) k)
-  only_end left End f k b e =
+  only_end left (Title n) f g k b e = never (sym (walk_title at s left n (sym f)) ∙ e)
+  only_end left (Grids n) f g k b e = absurd (g n refl)
+  only_end left Block f g k b e = absurd (k refl)
+  only_end left End f g k b e =
       let (none, three) = ended left (sym f) e in
       (none, split 127 0 s b (known s (sym f)) ∙ nothing s (known s (sym f)).size_is three)
     where
@@ -74,7 +71,7 @@ module _ (at : ℕ) (s : List ℕ) (ps : List Part) where
       nothing (a ∷ b ∷ []) z l = absurd (omega (arith, l))
       nothing (a ∷ b ∷ c ∷ []) z l = ap (λ (n : ℕ). head 127 0 ++ take n [] ++ []) z
       nothing (a ∷ b ∷ c ∷ d ∷ xs) z l = absurd (omega (arith, l))
-  only_end left Fails f k b e = never (sym (walk_fails at s left (sym f)) ∙ e)
+  only_end left Fails f g k b e = never (sym (walk_fails at s left (sym f)) ∙ e)
 
 -- there are no more grids and blocks than bytes for them
 abbrev Bound : List Part → List ℕ → Type 0

@@ -19,17 +19,6 @@ row_with-requires c =
     small c.column_checks.result c.args.i c.nonzero-found.result c.parts_of.result c.requires
     c.nonzero-found.ensures c.parts_of.ensures
 
-pub paired-requires : goal.paired-requires
-paired-requires c =
-    let n = c.nonzero-found in
-    let m = c.parts_of in (
-      c.requires,
-      subst (λ (r : ℕ). r < 8) (sym c.row_with.ensures)
-          (row_lt (bit_xor n.result (m.result / 2))
-          (small c.column_checks.result c.args.i n.result m.result c.requires n.ensures
-          m.ensures)),
-    )
-
 pub returns : goal.returns
 returns c =
     let row = c.row_with in

@@ -1,15 +1,9 @@
 -- `grid_columns::check` meets its contract: both sides are linear, and agree at each place. Assumes nothing.
-use native.Mathlib.Omega.{arith}
-use Prim.Native.Nat.{ℕ, ◌*◌, ◌/◌, ◌^◌}
-use lib.Bits.{and_le_r}
+use Prim.Native.Nat.{ℕ, ◌*◌, ◌^◌}
 use lib.Dec.{eqb}
-use borrow.Author.Rules.{rules}
 use Rattle.words.proofs.Linear.{Linear, same, shr, mask, digit, agree}
 use Rattle.words.proofs.Test.{all_below, at_below}
 use Rattle.grid_columns.proofs.check.Goals as goal
-
-pub overflow_cast-result : goal.overflow_cast-result
-overflow_cast-result c = record { fits = omega (arith, and_le_r (c.args.checks / 2 ^ (8 * c.args.k)) 255) }
 
 -- what the code computes
 made : ℕ → Linear

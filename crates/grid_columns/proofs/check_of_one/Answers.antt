@@ -8,7 +8,6 @@ use lib.Bits.{bit_xor}
 use lib.Count.{count_trailing_zeros}
 use lib.ListN.{get_or}
 use lib.Pow.{pow_mono}
-use borrow.Author.Rules.{rules}
 use Rattle.words.specs.Word.{bit}
 use Rattle.words.proofs.Bit.{trailing_set}
 use Rattle.grid_columns.specs.Steps.{parts}

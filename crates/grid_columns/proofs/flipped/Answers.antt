@@ -2,7 +2,6 @@
 use mathlib.Core.Path.{ap}
 use native.Mathlib.Nat.{mod-eq_of_lt}
 use lib.Bits.{bit_xor}
-use borrow.Author.Rules.{rules}
 use Rattle.grid_columns.proofs.Rows.{placed_lt}
 use Rattle.grid_columns.proofs.flipped.Goals as goal
 

@@ -25,9 +25,6 @@ not_none e t l b =
     ⊎_elim (λ z. absurd (omega (arith, sym (bit_zero (t % 8)) ∙ sym (ap (λ (x : ℕ). bit x (t % 8)) z) ∙ set))) (λ l. l)
     (eq-zero-or-pos (get_or (digits 8 4 e) (bit_and (t / 2 ^ 3) 3) 0))
 
-pub check-requires : goal.check-requires
-check-requires c = mask_lt (count_trailing_zeros 32 c.args.checks / 2 ^ 3) 2
-
 pub returns : goal.returns
 returns c =
     let e : ℕ = c.args.checks in

@@ -8,16 +8,8 @@ use Rattle.grid_columns.specs.Steps.{rows_by_halves, One}
 use Rattle.grid_columns.proofs.Errors.{nonzero, nonzero_lt, row_lt, one_mended}
 use Rattle.grid_columns.proofs.one.Goals as goal
 
-pub row_with-requires : goal.row_with-requires
-row_with-requires c = subst (λ (n : ℕ). n < 8) (sym c.nonzero.ensures) (nonzero_lt c.column_checks.result)
-
 below : (e n r : ℕ) → n ≡ nonzero e → r ≡ get_or rows_by_halves n 0 → r < 8
 below e n r p q = subst (λ (r : ℕ). r < 8) (sym q) (row_lt n (subst (λ (n : ℕ). n < 8) (sym p) (nonzero_lt e)))
-
-pub evened-requires : goal.evened-requires
-evened-requires c =
-    below c.column_checks.result c.nonzero.result c.row_with.result c.nonzero.ensures
-    c.row_with.ensures
 
 pub returns : goal.returns
 returns c =

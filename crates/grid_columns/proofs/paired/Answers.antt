@@ -8,14 +8,6 @@ use Rattle.grid_columns.specs.Steps.{OneByte, Paired}
 use Rattle.grid_columns.proofs.Errors.{byte_lt, pair_mended}
 use Rattle.grid_columns.proofs.paired.Goals as goal
 
-pub flipped-requires : goal.flipped-requires
-flipped-requires c =
-    (byte_lt c.column_checks.result c.lowest-error.result c.lowest-error.ensures, c.requires.0)
-
-pub flipped-requires-2 : goal.flipped-requires-2
-flipped-requires-2 c =
-    (byte_lt c.column_checks.result c.lowest-error.result c.lowest-error.ensures, c.requires.1)
-
 pub returns : goal.returns
 returns c =
     let error = c.lowest-error in

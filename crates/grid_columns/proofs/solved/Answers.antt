@@ -51,12 +51,6 @@ first_row-j-requires c =
     let h : c.args.marks < 2 ^ 64 = search rules in
     ((first c.args.marks h c.first_row-i.ensures c.flipped-others.ensures).asides, some c.if-others-eq0.false)
 
-pub two-requires : goal.two-requires
-two-requires c =
-    let h : c.args.marks < 2 ^ 64 = search rules in
-    let t = first c.args.marks h c.first_row-i.ensures c.flipped-others.ensures in
-    (t.below, c.first_row-j.ensures.0, others_differ t c.first_row-j.ensures.1)
-
 pub returns-then-rest-eq0 : goal.returns-then-rest-eq0
 returns-then-rest-eq0 c =
     let h : c.args.marks < 2 ^ 64 = search rules in

@@ -9,7 +9,7 @@ use Rattle.words.proofs.Bit.{bit-cases, bit_lt}
 use Rattle.words.proofs.Digits.{digits_below}
 use Rattle.grid_code.proofs.Checks.{checks, checks_is}
 use Rattle.grid_columns.specs.Steps.{Paired}
-use Rattle.grid_columns.proofs.Errors.{check, parts_of, evened, three_by_j, three_by_k}
+use Rattle.grid_columns.proofs.Errors.{check, parts_of, three_by_j, three_by_k}
 use Rattle.grid_columns.proofs.three.Goals as goal
 
 byte : (e at : ℕ) {r : ℕ} → r ≡ check e at → r < 256
@@ -18,18 +18,6 @@ byte e at p = subst (λ (x : ℕ). x < 256) (sym p) (digits_below 8 4 e at)
 -- the bit that the code tests
 tested : (i j at : ℕ) {a b : ℕ} → a ≡ parts_of i → b ≡ parts_of j → bit_and (bit_xor a b / 2 ^ at) 1 ≡ bit (bit_xor (parts_of i) (parts_of j)) at
 tested i j at {a} {b} p q = and_mask (bit_xor a b / 2 ^ at) 1 ∙ ap (λ (x : ℕ). bit x at) (ap₂ bit_xor p q)
-
-pub flipped-requires : goal.flipped-requires
-flipped-requires c = (byte c.column_checks.result c.check_of_one-at.result c.check-error.ensures, c.requires.0)
-
-pub flipped-requires-then-parts_of-at-eq1 : goal.flipped-requires-then-parts_of-at-eq1
-flipped-requires-then-parts_of-at-eq1 c = (byte c.column_checks.result c.check_of_one-at.result c.check-error.ensures, c.requires.1)
-
-pub flipped-requires-2 : goal.flipped-requires-2
-flipped-requires-2 c = (byte c.column_checks.result c.check_of_one-at.result c.check-error.ensures, c.requires.0)
-
-pub flipped-requires-3 : goal.flipped-requires-3
-flipped-requires-3 c = (byte c.column_checks.result c.check_of_one-at.result c.check-error.ensures, c.requires.2)
 
 pub returns-then-parts_of-at-eq1 : goal.returns-then-parts_of-at-eq1
 returns-then-parts_of-at-eq1 c =

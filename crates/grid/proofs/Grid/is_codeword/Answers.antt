@@ -1,0 +1,8 @@
+-- `grid::Grid::is_codeword` meets its contract: a codeword is the grid of its data places. Assumes nothing.
+use Rattle.grid.proofs.Verdicts.{is_judged}
+use Rattle.grid.proofs.Grid.is_codeword.Goals as goal
+
+pub returns : goal.returns
+returns c =
+    is_judged c.args.self.rows c.number-word.result c.number-word.ensures.answer
+    c.places_of.result c.completed.result c.places_of.ensures c.completed.ensures
