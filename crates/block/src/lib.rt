@@ -120,7 +120,7 @@ impl Block {
     // code's own.
     pub fn encode(values: &[u16], words: &mut [u16]) -> EncodeAnswer
         ensures encoded { Encoded values.now words.old result words.new }
-        ensures* constants { do ⌜ States code_of_block (← (⟦Block::RADIUS⟧).entry) (← (⟦Block::LENGTH⟧).entry) (← (⟦Block::DISTANCE⟧).entry) ⌝ }
+        ensures constants { States code_of_block Block.RADIUS Block.LENGTH Block.DISTANCE }
     {
         if values.len() != VALUES {
             return EncodeAnswer::Refused(Refusal::Length);

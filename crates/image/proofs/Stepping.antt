@@ -5,9 +5,10 @@ use Prim.Native.Nat.{ℕ, zero, suc, ◌+◌, ◌-◌, ◌/◌, ◌≤◌, ◌<�
 use native.Mathlib.Decide.{ℕ_discrete}
 use native.Mathlib.Nat.{add-zero}
 use native.Mathlib.Omega.{arith}
-use lib.ListN.{length, drop, length-drop}
+use lib.ListN.{length, take, drop, length-drop}
 use lib.Seq.{drop-drop}
 use borrow.Author.Tests.{eq-eqb, ne_eqb}
+use Rattle.words.proofs.Lists.{part_behind}
 use Rattle.refusals.specs.declared.Refusal.TheVariants.{Broken}
 use Rattle.fields.specs.declared.Field.TheVariants.{Title, Grids, Block, End, Fails}
 use Rattle.fields.specs.Fields.{field_of}
@@ -78,12 +79,7 @@ module _ (image : List ℕ) (p : Progress) (i : Inside image p) where
   pub room_block : field_of rest ≡ Block → Roomy p 79 0 1
   room_block f = roomy 79 0 1 (known rest f).room (omega arith) (omega arith)
 
-  -- the fields at which the walk is over
-  pub at-end : field_of rest ≡ End → length rest ≡ 3 → Stepped image p (Over (Done p.grids p.blocks))
-  at-end f l =
-      let e : found_after p.grids p.blocks (sound []) ≡ Done p.grids p.blocks = simp add-zero in
-      sym (ap (found_after p.grids p.blocks) (walk_end p.at rest p.left f l) ∙ e)
-
+  -- the other fields at which the walk is over
   pub more_behind : field_of rest ≡ End → (length rest ≡ 3 → ⊥) → Stepped image p (Over (Refused (Broken (p.at + 3))))
   more_behind f l = sym (ap (found_after p.grids p.blocks) (walk-behind p.at rest p.left f l))
 
@@ -92,3 +88,11 @@ module _ (image : List ℕ) (p : Progress) (i : Inside image p) where
 
   pub rule_fails : field_of rest ≡ Fails → Stepped image p (Over (Refused (Broken p.at)))
   rule_fails f = sym (ap (found_after p.grids p.blocks) (walk_fails p.at rest p.left f))
+
+-- the end, as it is found in the bytes that are lent from the offset on, with nothing behind it
+pub end_found : (s : List ℕ) (at left g b : ℕ) → field_of (take (length s - at) (drop at s)) ≡ End → length s - at ≡ 3
+    → found_after g b (walk left at (drop at s)) ≡ Done g b
+end_found s at left g b f l =
+    let e : found_after g b (sound []) ≡ Done g b = simp add-zero in
+    let here : field_of (drop at s) ≡ End = sym (ap field_of (part_behind at s)) ∙ f in
+    ap (found_after g b) (walk_end at (drop at s) left here (omega (arith, length-drop at s))) ∙ e

@@ -63,6 +63,7 @@ fn behind(p: Progress, size: usize, grids: usize, blocks: usize) -> Onward
 }
 
 // From the field that is next.
+#[tactic(auto, using(crate::proofs::Stepping::end_found))]
 fn next(image: &[u8], p: Progress) -> Onward
     requires { Inside image.now p }
     ensures { Stepped image.now p result }

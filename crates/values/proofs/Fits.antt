@@ -1,10 +1,10 @@
--- What each step does where the lengths fit, and where they do not. Assumes nothing.
+-- What each step does where the lengths fit. Assumes nothing.
 use mathlib.Core.Path.{◌≡◌, sym, ◌∙◌}
 use mathlib.Core.List.{List}
-use Prim.Native.Nat.{ℕ, ◌*◌, ◌≤◌, ◌<◌}
+use Prim.Native.Nat.{ℕ, ◌*◌, ◌≤◌}
 use native.Mathlib.Omega.{arith}
 use lib.ListN.{length, take}
-use borrow.Author.Tests.{le-leb, lt-leb}
+use borrow.Author.Tests.{le-leb}
 use Rattle.words.specs.Bytes.{words_in, bytes_of, laid}
 use Rattle.words.proofs.Bytes.{length-bytes, laid_all}
 use Rattle.values.specs.Steps.{FirstRows, Copied, Taken, Put}
@@ -16,26 +16,12 @@ module _ (bytes to : List ℕ) where
   pub copied : length bytes ≤ length to → {exit : List ℕ} → exit ≡ laid bytes to → Copied bytes to exit
   copied h e = record { after = rw (le-leb (length bytes) (length to) h) e }
 
-  pub not_copied : length to < length bytes → Copied bytes to to
-  not_copied h = record { after = rw (lt-leb (length bytes) (length to) h) }
-
   pub copy_there : (exit : List ℕ) → length bytes ≤ length to → Copied bytes to exit → exit ≡ laid bytes to
   copy_there exit h x = x.after ∙ (rw (le-leb (length bytes) (length to) h))
 
 module _ (k : ℕ) (bytes words : List ℕ) where
-  module _ (h : k * length words ≤ length bytes) where
-    pub taken : {exit : List ℕ} → exit ≡ words_in k (length words) bytes → Taken k bytes words exit
-    taken e = record { after = rw (le-leb (k * length words) (length bytes) h) e }
-
-    pub put : {exit : List ℕ} → exit ≡ laid (bytes_of k words) bytes → Put k words bytes exit
-    put e = record { after = rw (le-leb (k * length words) (length bytes) h) e }
-
-  module _ (h : length bytes < k * length words) where
-    pub not_taken : Taken k bytes words words
-    not_taken = record { after = rw (lt-leb (k * length words) (length bytes) h) }
-
-    pub not_put : Put k words bytes bytes
-    not_put = record { after = rw (lt-leb (k * length words) (length bytes) h) }
+  pub taken : k * length words ≤ length bytes → {exit : List ℕ} → exit ≡ words_in k (length words) bytes → Taken k bytes words exit
+  taken h e = record { after = rw (le-leb (k * length words) (length bytes) h) e }
 
   -- where there are bytes for the words and no more
   module _ (exit : List ℕ) (h : length bytes ≡ k * length words) where

@@ -5,7 +5,7 @@ use Rattle.fields.specs.declared.Field.{Field}
 use Rattle.fields.specs.Fields.{field_of}
 use Rattle.fields.proofs.Fields.{known}
 use Rattle.image.specs.Steps.{Stepped}
-use Rattle.image.proofs.Stepping.{behind_grids, behind_block, room_grids, room_block, at-end, more_behind, second_title, rule_fails}
+use Rattle.image.proofs.Stepping.{behind_grids, behind_block, room_grids, room_block, more_behind, second_title, rule_fails}
 use Rattle.image.proofs.next.Goals as goal
 
 -- what stands behind the offset is what was asked for a field
@@ -24,12 +24,6 @@ behind-requires c =
 pub behind-requires-in-Block : goal.behind-requires-in-Block
 behind-requires-in-Block c =
     room_block c.args.image.now c.args.p c.requires (stands c.args.p.at c.args.image.now c.in-Block.ensures.answer)
-
-pub returns-then-rest-eq-HEAD : goal.returns-then-rest-eq-HEAD
-returns-then-rest-eq-HEAD c =
-    let l = length_part c.args.p.at c.args.image.now in
-    at-end c.args.image.now c.args.p c.requires (stands c.args.p.at c.args.image.now c.in-End.ensures.answer)
-    (omega (arith, l, length-drop c.args.p.at c.args.image.now))
 
 pub returns-in-Grids : goal.returns-in-Grids
 returns-in-Grids c =

@@ -1,17 +1,10 @@
-use mathlib.Core.Path.{◌≡◌, refl, ap, ◌∙◌}
-use Prim.Native.Nat.{◌-◌, ◌≤◌}
-use native.Mathlib.Omega.{arith}
-use lib.ListN.{length, get_or, set, take, length-set}
-use lib.Seq.{take_all}
+-- Place after place.
+use Rattle.std.proofs.Common.{◌≡◌, ◌-◌, ◌≤◌, length, take}
 use Rattle.words.specs.Bytes.{laid}
-use Rattle.words.proofs.Bytes.{laid_none}
-use Rattle.words.proofs.Turns.{place_turn}
-use Rattle.values.proofs.Fits.{copied, not_copied}
 use Rattle.values.proofs.copy.Given as goal
 
-abbrev pub invariant-loop-VAR : goal.invariant-loop-VAR
-invariant-loop-VAR bytes to₀ i₀ to i = (i ≤ length bytes) × (to ≡ laid (take i bytes) to₀) × (length to ≡ length to₀)
+abbrev pub invariant-loop-i : goal.invariant-loop-i
+invariant-loop-i l = (l.i ≤ length l.bytes) × (l.to ≡ laid (take l.i l.bytes) l.initial.to) × (length l.to ≡ length l.initial.to)
 
-
-abbrev pub decreases-loop-VAR : goal.decreases-loop-VAR
-decreases-loop-VAR bytes to₀ i₀ to i = length bytes - i
+abbrev pub decreases-loop-i : goal.decreases-loop-i
+decreases-loop-i l = length l.bytes - l.i

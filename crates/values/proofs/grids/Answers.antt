@@ -1,50 +1,35 @@
 -- `values::grids` meets its contract: grid after grid. Assumes nothing.
-use mathlib.Core.Path.{◌≡◌, refl, ap, ◌∙◌}
-use Prim.Native.Nat.{◌-◌, ◌*◌, ◌≤◌, ◌<◌}
-use native.Mathlib.Omega.{arith}
-use lib.ListN.{length, set, take, length-set}
+use Rattle.std.proofs.Common.{◌≤◌, ◌<◌, refl, ap, ◌∙◌, arith, length, set}
+use lib.ListN.{length-set}
 use lib.Seq.{take_all}
-use borrow.Author.Rules.{rules}
 use Rattle.words.specs.Digits.{joined}
 use Rattle.words.specs.Bytes.{words_in, laid}
-use Rattle.words.proofs.Lists.{length_part}
 use Rattle.words.proofs.Bytes.{length-words, laid_none, laid_all}
 use Rattle.words.proofs.Turns.{word_there, place_turn}
-use Rattle.values.proofs.Fits.{taken, not_taken}
+use Rattle.values.proofs.Fits.{taken}
 use Rattle.values.proofs.grids.Goals as goal
 
-pub returns : goal.returns
-returns-2 c =
-    let a = c.args in
-    not_taken 8 a.bytes.now a.page.now (omega (arith, c.if1.true))
+pub loop-i-init : goal.loop-i-init
+loop-i-init c = (omega arith, laid_none _, refl)
 
-pub grid-at-requires : goal.grid-at-requires
-grid-at-requires c κs =
-    let l = c.loop in
-    let s = c in
-    omega (arith, length_part (8 * l.i) s.args.bytes.now, c.if1.false)
-
-pub loop-VAR-preserved : goal.loop-VAR-preserved
-loop-VAR-preserved c =
-    let l = c.loop in
+pub loop-i-preserved : goal.loop-i-preserved
+loop-i-preserved c =
+    let l = c.loop-i in
     let a = c.args in
     let n = length a.page.now in
     let ws = words_in 8 n a.bytes.now in
     let more : l.i < n = omega arith in
     let turn =
     place_turn ws a.page.now l.i c.number.result (omega (arith, length-words 8 n a.bytes.now)) more
-    (c.number.ensures.answer ∙ ap (joined 8) c.grid-at.ensures ∙ word_there 8 n a.bytes.now l.i more) in
+    (c.number.ensures.answer ∙ ap (joined 8) c.grid_at.ensures ∙ word_there 8 n a.bytes.now l.i more) in
     (omega arith, ap (λ t. set t l.i c.number.result) l.invariant.1 ∙ turn, length-set l.page l.i _ ∙ l.invariant.2)
 
-pub same-length : goal.same-length
-same-length c = c.loop.invariant.2
-
-pub returns-2 : goal.returns-2
-returns-2 c =
-    let l = c.loop in
+pub returns : goal.returns
+returns c =
+    let l = c.loop-i in
     let a = c.args in
     let n = length a.page.now in
     let ws = words_in 8 n a.bytes.now in
     let all : length ws ≤ l.i = omega (arith, length-words 8 n a.bytes.now) in
-    taken 8 a.bytes.now a.page.now (omega (arith, c.if1.false))
+    taken 8 a.bytes.now a.page.now (omega arith)
     (l.invariant.1 ∙ ap (λ b. laid b a.page.now) (take_all l.i ws all) ∙ laid_all ws a.page.now (length-words 8 n a.bytes.now))

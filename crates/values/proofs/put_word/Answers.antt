@@ -1,5 +1,4 @@
 -- `values::put_word` meets its contract: two stores. Assumes nothing.
-use borrow.Author.Rules.{rules}
 use Rattle.words.specs.Digits.{digits}
 use Rattle.words.proofs.Turns.{stored}
 use Rattle.values.proofs.put_word.Goals as goal
