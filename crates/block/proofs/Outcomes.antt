@@ -34,7 +34,7 @@ use Rattle.block_code.proofs.Syndromes.{syndrome_sum, syndrome_zero, syndrome_co
 use Rattle.block_flips.specs.Steps.{Explains, Unexplained, Nearest}
 use Rattle.block_flips.specs.declared.Flips.{Flips}
 use Rattle.block_flips.specs.declared.Flips.TheVariants.{One, Two, More}
-use Rattle.block_words.specs.Steps.{flipped, BlockWritten, Flipped}
+use Rattle.block_words.specs.Steps.{flipped, BlockWritten}
 use Rattle.block_words.proofs.Flips.{joined-flipped}
 use Rattle.block.specs.Answer.{answer_of}
 use Rattle.block.specs.Calls.{Encoded, Scrubbed}
@@ -79,9 +79,6 @@ flip_block ws p (n, h) l = (simp length-set n, λ i. go i (ℕ_discrete i (p / 1
 -- .. with that place flipped in the number
 flip_number : (ws : List ℕ) (p : ℕ) → IsBlock ws → p < 608 → joined 16 (flipped ws p) ≡ bit_xor (joined 16 ws) (2 ^ p)
 flip_number ws p (n, h) l = joined-flipped ws p (omega arith) h
-
-pub flipped_twice : {ws once exit : List ℕ} {p q : ℕ} → Flipped ws p once → Flipped once q exit → exit ≡ flipped (flipped ws p) q
-flipped_twice {q} f g = g.after ∙ ap (λ (ws : List ℕ). flipped ws q) f.after
 
 -- one place of a block flipped, or two
 flip_one : (ws : List ℕ) (p : ℕ) → IsBlock ws → p < 608 → flipped ws p ≡ digits 16 38 (bit_xor (joined 16 ws) (2 ^ p))
@@ -199,17 +196,3 @@ encoded values before exit n m h w =
       after = w.after;
       meets = λ done. subst (Codeword d) (sym (ap (joined 16) block ∙ joined-digits 16 38 (codeword d) (codeword_lt d l))) (meets d l);
     }
-
--- ---- other lengths
-
-pub not_encoded : (values before : List ℕ) → (length values ≢ 32) ⊎ (length before ≢ 38) → Encoded values before (NotWritten Length) before
-not_encoded values before other =
-    let not : allowed values before ≡ false = not_allowed values before other in
-    record {
-      answer = sym (ap (λ (t : Bool). choose t Written (NotWritten Length)) not);
-      after = sym (ap {B = List ℕ} (λ (t : Bool). choose t (digits 16 38 (codeword (joined 16 values))) before) not);
-      meets = λ done. let z : ◌≡◌ {A = ℕ} 0 1 = cc in absurd (omega arith);
-    }
-
-pub other_length : (ws : List ℕ) → length ws ≢ 38 → Scrubbed ws (record { answer = Refused Length; pattern = replicate 38 0 }) ws
-other_length ws ne = let no = ne_eqb (length ws) 38 ne in record { answer = rw no; pattern = rw no; after = rw no }

@@ -12,9 +12,8 @@ use Rattle.block_code.specs.declared.Checks.{Checks}
 use Rattle.block_code.proofs.Distance.{same_place}
 use Rattle.block_code.proofs.Mixing.{mixed_self, mixed_comm, mixed_back, eq_of_mixed, none_set_lem, some_set}
 use Rattle.block_code.proofs.Places.{data_at, place-data}
-use Rattle.block_flips.specs.Steps.{lowest_of, Explained, OnlyPlace, RuledOut, Attempted, Among, Explains, Guessed, Unexplained, in_order, is_more}
-use Rattle.block_flips.specs.declared.Flips.{Flips}
-use Rattle.block_flips.specs.declared.Flips.TheVariants.{One, Two, More}
+use Rattle.block_flips.specs.Steps.{lowest_of, Explained, OnlyPlace, RuledOut, Attempted, Among, Guessed, Unexplained, in_order}
+use Rattle.block_flips.specs.declared.Flips.TheVariants.{One, More}
 use Rattle.block_flips.proofs.Naming.{Only, order}
 
 -- ---- one place
@@ -32,12 +31,6 @@ module _ (s : Checks) (p : ℕ) where
     yes = λ e. (h, left_none (none_set_lem (mixed s (of_place p)) (sym n ∙ e)));
     no = λ e l q. some_set (mixed s (of_place p)) (sym n ∙ e) (none_left q);
   }
-
-  pub nowhere : 608 ≤ p → Explained p s false
-  nowhere h = record { yes = λ e. absurd (true≢false (sym e)); no = λ e l. absurd (omega arith) }
-
-  pub is_alone : Explained p s true → OnlyPlace s p
-  is_alone x = record { sound = λ h. (x.yes refl).1; all = λ q h e. (x.yes refl).0 }
 
   pub not_alone : Only s p → Explained p s false → OnlyPlace s 608
   not_alone only x = record {
@@ -103,22 +96,9 @@ module _ (s : Checks) (p : ℕ) where
   pub tried_more : (q : ℕ) → none_set (mixed s (of_place p)) ≡ false → OnlyPlace (mixed s (of_place p)) q → 608 ≤ q → Attempted s p More
   tried_more q n a l = ruled_out n (λ r h m e. absurd (omega (arith, l, a.all r m e)))
 
-  pub tried_nowhere : 608 ≤ p → Attempted s p More
-  tried_nowhere l = record { alone = λ h. absurd (omega arith); paired = λ q h. absurd (omega arith) }
-
 -- ---- both guesses
 
 module _ (s : Checks) (p : ℕ) where
-  pub found : (f : Flips) → Attempted s p f → is_more f ≡ false → Explains s (Unexplained s) f
-  found (One a) t e = t
-  found (Two a b) t e = t
-  found More t e = absurd (true≢false e)
-
-  pub failed : (f : Flips) → Attempted s p f → is_more f ≡ true → RuledOut s p
-  failed (One a) t e = absurd (true≢false (sym e))
-  failed (Two a b) t e = absurd (true≢false (sym e))
-  failed More t e = t
-
   pub none_found : Guessed s p → RuledOut s p → RuledOut s (lowest_of s) → Unexplained s
   none_found g x y = record {
     alone = λ q h e. (fails q (g.alone q h e)).alone h e;

@@ -21,7 +21,7 @@ returns-then-q-lt-PLACES c =
     let q : ℕ = c.alone-q.result in
     let rest = c.mix-rest.ensures.answer ∙ ap (mixed s) c.of_place.ensures.answer in
     subst (Attempted s p) (sym c.in_order.ensures)
-    (tried_two s p q c.if-p-lt-PLACES.true (omega (arith, c.if-q-lt-PLACES.true))
+    (tried_two s p q c.if-p-lt-PLACES.true (omega arith)
     (sym (c.is_none.ensures.answer ∙ ap none_set rest) ∙ c.if-is_none.false)
     (subst (λ (k : Checks). OnlyPlace k q) rest c.alone-q.ensures))
 
@@ -32,4 +32,4 @@ returns-else-q-lt-PLACES c =
     let q : ℕ = c.alone-q.result in
     let rest = c.mix-rest.ensures.answer ∙ ap (mixed s) c.of_place.ensures.answer in
     tried_more s p q (sym (c.is_none.ensures.answer ∙ ap none_set rest) ∙ c.if-is_none.false)
-    (subst (λ (k : Checks). OnlyPlace k q) rest c.alone-q.ensures) c.if-q-lt-PLACES.false
+    (subst (λ (k : Checks). OnlyPlace k q) rest c.alone-q.ensures) (omega arith)

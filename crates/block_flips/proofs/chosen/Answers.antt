@@ -25,7 +25,7 @@ returns-then-other-lt16 c =
     guessed _ _ _ c.second-other.ensures
     (left c.if-s-eq0.false
     (left c.if-s-eq0-2.false
-    (left c.if-t-r.false (taken (omega (arith, c.if-other-lt16.true)) (placed c.place_at-then-other-lt16.ensures)))))
+    (left c.if-t-r.false (taken (omega arith) (placed c.place_at-then-other-lt16.ensures)))))
 
 pub returns : goal.returns
 returns c =
@@ -33,5 +33,5 @@ returns c =
     (left c.if-s-eq0.false
     (left c.if-s-eq0-2.false
     (left c.if-t-r.false
-    (left (λ h. absurd (omega (arith, h, c.if-other-lt16.false)))
+    (left (λ h. absurd (omega arith))
     (λ l r d hr hd x y. placed c.place_at-2.ensures r d hr hd (omega (arith, c.less-2.ensures (omega arith))) y)))))
