@@ -7,7 +7,7 @@
 ghost use Rattle.refusals.specs.Calls.{TableNumber, TablePlace};
 
 // A case for each number of the table. Broken has the place of the break: an offset in an image, or a byte's place in a title.
-#[derive(Drop)]
+#[derive(Clone, Copy)]
 pub enum Refusal {
     LostGrid,
     LostBlock,
