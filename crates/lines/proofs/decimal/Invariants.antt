@@ -3,10 +3,10 @@ use Rattle.std.proofs.Common.{◌≡◌, ◌≤◌, ◌++◌, length, drop}
 use Rattle.lines.specs.Text.{decimal}
 use Rattle.lines.proofs.decimal.Given as goal
 
-abbrev pub invariant-loop-i : goal.invariant-loop-i
-invariant-loop-i l =
+abbrev pub invariant-loop-rest : goal.invariant-loop-rest
+invariant-loop-rest l =
     (l.text ≡ l.initial.text) × (l.i ≤ 20) × (length l.digits ≡ 20) × (length (decimal l.rest) ≤ l.i)
     × (decimal l.rest ++ drop l.i l.digits ≡ decimal l.n)
 
-abbrev pub decreases-loop-i : goal.decreases-loop-i
-decreases-loop-i l = l.i
+abbrev pub decreases-loop-rest : goal.decreases-loop-rest
+decreases-loop-rest l = l.i
