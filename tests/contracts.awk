@@ -12,11 +12,9 @@ function closed(s, i,    depth, c) {
     return 0
 }
 
-# the record that a fact cites
-function cited(s,    from, to, name) {
-    from = index(s, "⌜") + length("⌜")
-    to = index(s, "⌝")
-    s = substr(s, from, to - from)
+# the record that a clause cites; s is the clause behind its brace
+function cited(s,    name) {
+    if (index(s, "⌜")) s = substr(s, index(s, "⌜") + length("⌜"), index(s, "⌝") - index(s, "⌜") - length("⌜"))
     while (gsub(/\([^()]*\)/, "", s)) { }
     name = s
     sub(/^ */, "", name)
@@ -35,10 +33,10 @@ function whole(s,    i, c, depth, from, clause, end) {
         if (c == ")") depth--
         if (c != "{" || depth > 0) continue
         clause = substr(s, from, i - from)
-        if (clause !~ /(requires|ensures)( +[a-z_]+)? *$/) return 1
+        if (clause !~ /(requires|ensures)[*]?( +[a-z_]+)? *$/) return 1
         if (!(end = closed(s, i))) return 0
-        if (clause ~ /requires( +[a-z_]+)? *$/) needs = "requires"
-        else said = said " " cited(substr(s, i, end - i))
+        if (clause ~ /requires[*]?( +[a-z_]+)? *$/) needs = "requires"
+        else said = said " " cited(substr(s, i + 1, end - i - 1))
         i = end
         from = end + 1
     }
