@@ -13,30 +13,25 @@ use Rattle.grid_trials.proofs.nearest.Goals as goal
 pub returns-then-needed-gt-RADIUS : goal.returns-then-needed-gt-RADIUS
 unfolding dist
 returns-then-needed-gt-RADIUS c =
-    let s = c in
-    let rows : List ℕ = s.args.rows in
+    let rows : List ℕ = c.args.rows in
     let small : (i : ℕ) → Fits w8 (get_or rows i 0) = λ i. search rules in
-    let word = s.number-word in
-    beyond rows (search rules) (λ i. (small i).fits) word.result c.number-repaired.result s.repaired.result word.ensures
-    c.number-repaired.ensures s.repaired.ensures c.if-needed-gt-RADIUS.true
+    let word = c.number-word in
+    beyond rows (search rules) (λ i. (small i).fits) word.result c.number-repaired.result c.repaired.result word.ensures
+    c.number-repaired.ensures c.repaired.ensures c.if-needed-gt-RADIUS.true
 
 pub returns-then-hold : goal.returns-then-hold
 unfolding dist
 returns-then-hold c =
-    let t = c in
-    let s = t in
-    let rows : List ℕ = s.args.rows in
+    let rows : List ℕ = c.args.rows in
     let small : (i : ℕ) → Fits w8 (get_or rows i 0) = λ i. search rules in
-    let word = s.number-word in
-    within rows (search rules) (λ i. (small i).fits) word.result t.number-repaired.result s.repaired.result word.ensures
-    t.number-repaired.ensures s.repaired.ensures (omega (arith, c.if-needed-gt-RADIUS.false)) (c.hold.ensures.yes c.if-hold.true)
+    let word = c.number-word in
+    within rows (search rules) (λ i. (small i).fits) word.result c.number-repaired.result c.repaired.result word.ensures
+    c.number-repaired.ensures c.repaired.ensures (omega (arith, c.if-needed-gt-RADIUS.false)) (c.hold.ensures.yes c.if-hold.true)
 
 pub returns : goal.returns
 returns c =
-    let t = c in
-    let s = t in
-    let rows : List ℕ = s.args.rows in
+    let rows : List ℕ = c.args.rows in
     let small : (i : ℕ) → Fits w8 (get_or rows i 0) = λ i. search rules in
-    let word = s.number-word in
-    decided rows (search rules) (λ i. (small i).fits) word.result t.number-repaired.result s.repaired.result word.ensures
-    t.number-repaired.ensures s.repaired.ensures c.trials.result c.trials.ensures
+    let word = c.number-word in
+    decided rows (search rules) (λ i. (small i).fits) word.result c.number-repaired.result c.repaired.result word.ensures
+    c.number-repaired.ensures c.repaired.ensures c.trials.result c.trials.ensures

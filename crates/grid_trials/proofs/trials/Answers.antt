@@ -15,8 +15,7 @@ use Rattle.grid_trials.proofs.trials.Goals as goal
 pub loop-more-init : goal.loop-more-init
 loop-more-init c =
     let m = c.needing-marks in
-    let s = c in
-    (omega arith, inl refl, λ put. begun (marked_two s.args.word s.args.rows m.result.any m.result.two put m.ensures))
+    (omega arith, inl refl, λ put. begun (marked_two c.args.word c.args.rows m.result.any m.result.two put m.ensures))
 
 one_more : (made : ℕ) (more : Bool) → made + choose more 1 0 ≤ 2 → more ≡ true → made < 2
 one_more made true l e = omega arith
@@ -33,10 +32,9 @@ returns-then-given-le-RADIUS c put =
     let test = c.loop-more-test in
     let l = c.loop-more in
     let m = c.needing-marks in
-    let s = c in
-    let word : ℕ = s.args.word in
+    let word : ℕ = c.args.word in
     stage_gives word l.aside m.result.any l.made given.result.number given.result.flips
-    (marked_any word s.args.rows m.result.any m.result.two put m.ensures)
+    (marked_any word c.args.rows m.result.any m.result.two put m.ensures)
     (subst (Stage word l.aside m.result.any l.made) test.true (l.invariant.2 put)) (λ t marked. given.ensures t put marked) c.if-given-le-RADIUS.true
 
 pub loop-more-smaller : goal.loop-more-smaller
@@ -64,13 +62,12 @@ loop-more-preserved c =
     let test = c.loop-more-test in
     let l = c.loop-more in
     let m = c.needing-marks in
-    let s = c in
-    let word : ℕ = s.args.word in (
+    let word : ℕ = c.args.word in (
       room l.made l.aside m.result.any (one_more l.made l.more l.invariant.0 test.true) l.invariant.1,
       inr refl,
       λ put.
           stage_next word l.aside m.result.any l.made given.result.number given.result.flips
-          (marked_any word s.args.rows m.result.any m.result.two put m.ensures)
+          (marked_any word c.args.rows m.result.any m.result.two put m.ensures)
           (subst (Stage word l.aside m.result.any l.made) test.true (l.invariant.2 put)) (λ t marked. given.ensures t put marked)
           c.if-given-le-RADIUS.false (not (eqb l.aside m.result.any)) (others l.aside m.result.any) (same l.aside m.result.any),
     )
@@ -79,6 +76,5 @@ pub returns : goal.returns
 returns c put =
     let l = c.loop-more in
     let m = c.needing-marks in
-    let s = c in
-    stage_ends s.args.word l.aside m.result.any l.made s.ranges.word.fits
-    (subst (Stage s.args.word l.aside m.result.any l.made) c.loop-more-test.false (l.invariant.2 put))
+    stage_ends c.args.word l.aside m.result.any l.made c.ranges.word.fits
+    (subst (Stage c.args.word l.aside m.result.any l.made) c.loop-more-test.false (l.invariant.2 put))

@@ -25,9 +25,8 @@ returns-in-Done c =
 
 pub returns-in-Refused : goal.returns-in-Refused
 returns-in-Refused c =
-    let at = c in
-    let a = at.args in
-    let s = at.scrub in
+    let a = c.args in
+    let s = c.scrub in
     let six : length a.tally.now ≡ 6 = omega arith in
-    scrubs six s.result s.ensures (c.number.ensures.answer ∙ sym (ap (λ r. number_in (means r)) at.in-Refused.is))
-    (sym (ap (λ r. shown r a.tally.now) at.in-Refused.is)) (sym (ap (λ r. pattern_shown r a.pattern.now) at.in-Refused.is))
+    scrubs six s.result s.ensures (c.number.ensures.answer ∙ sym (ap (λ r. number_in (means r)) c.in-Refused.is))
+    (sym (ap (λ r. shown r a.tally.now) c.in-Refused.is)) (sym (ap (λ r. pattern_shown r a.pattern.now) c.in-Refused.is))

@@ -21,25 +21,23 @@ pub returns-then-flips-eq0 : goal.returns-then-flips-eq0
 returns-then-flips-eq0 c by =
     let read = c.data_of-data in
     let taken = c.places_of in
-    let else = c in
-    let number = else.number in
-    let grid = else.of_number-grid in
-    let a = else.args in
+    let number = c.number in
+    let grid = c.of_number-grid in
+    let a = c.args in
     answers a.self.rows a.number a.flips a.trials number.result (bit_xor number.result a.number) grid.result.rows grid.ensures.answer number.ensures.answer refl by
     (Clean read.result) (λ d l s.
     let is = taken_data a.number taken.result read.result d taken.ensures read.ensures l s in
-    sym (ap (λ (n : ℕ). named (answered d n)) c.if-flips-eq0.true ∙ named_clean d (other_is d a.number s else.if-number-eq-ALL_ONES.false) ∙ ap clean (sym is)))
+    sym (ap (λ (n : ℕ). named (answered d n)) c.if-flips-eq0.true ∙ named_clean d (other_is d a.number s c.if-number-eq-ALL_ONES.false) ∙ ap clean (sym is)))
 
 pub returns : goal.returns
 returns c by =
     let read = c.data_of-data in
     let taken = c.places_of in
-    let else = c in
-    let number = else.number in
-    let grid = else.of_number-grid in
-    let a = else.args in
+    let number = c.number in
+    let grid = c.of_number-grid in
+    let a = c.args in
     answers a.self.rows a.number a.flips a.trials number.result (bit_xor number.result a.number) grid.result.rows grid.ensures.answer number.ensures.answer refl by
     (Mended read.result a.flips) (λ d l s.
     let is = taken_data a.number taken.result read.result d taken.ensures read.ensures l s in
-    sym (ap named (some_flips d a.flips c.if-flips-eq0.false) ∙ named_mended d a.flips (other_is d a.number s else.if-number-eq-ALL_ONES.false)
+    sym (ap named (some_flips d a.flips c.if-flips-eq0.false) ∙ named_mended d a.flips (other_is d a.number s c.if-number-eq-ALL_ONES.false)
     ∙ ap (λ (e : ℕ). mended e a.flips) (sym is)))

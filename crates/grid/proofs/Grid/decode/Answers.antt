@@ -8,8 +8,7 @@ use Rattle.grid.proofs.Grid.decode.Goals as goal
 
 pub returns-then-is_codeword : goal.returns-then-is_codeword
 returns-then-is_codeword c =
-    let s = c in
-    let rows : List ℕ = s.args.self.rows in
+    let rows : List ℕ = c.args.self.rows in
     let number = c.number in
     c.answered.ensures
-    (is_codeword rows number.result number.ensures.answer (subst (Judged rows) s.if-is_codeword.true s.is_codeword.ensures))
+    (is_codeword rows number.result number.ensures.answer (subst (Judged rows) c.if-is_codeword.true c.is_codeword.ensures))

@@ -19,6 +19,5 @@ returns-in_default c =
 
 pub returns : goal.returns
 returns c =
-    let s = c in
-    let found = s.nearest in
-    c.answered.ensures (subst (Nearby s.args.self.rows) c.in-Within.is found.ensures)
+    let found = c.nearest in
+    c.answered.ensures (subst (Nearby c.args.self.rows) c.in-Within.is found.ensures)

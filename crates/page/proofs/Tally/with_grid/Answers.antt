@@ -13,55 +13,50 @@ use Rattle.page.proofs.Tally.with_grid.Goals as goal
 
 pub counted-requires : goal.counted-requires
 counted-requires c =
-    let s = c in
     let grid = c.of_number-grid in
     let judged = subst (Judged grid.result.rows) c.if-is_codeword.true c.is_codeword.ensures in
-    subst (Roomy s.args.self)
-    (all_ones_blank s.args.word grid.result.rows s.ranges.word.fits grid.ensures.answer judged c.if-word-eq-ALL_ONES.true) s.requires
+    subst (Roomy c.args.self)
+    (all_ones_blank c.args.word grid.result.rows c.ranges.word.fits grid.ensures.answer judged c.if-word-eq-ALL_ONES.true) c.requires
 
 pub returns-then-word-eq-ALL_ONES : goal.returns-then-word-eq-ALL_ONES
 returns-then-word-eq-ALL_ONES c =
-    let s = c in
     let grid = c.of_number-grid in
     let judged = subst (Judged grid.result.rows) c.if-is_codeword.true c.is_codeword.ensures in
-    let is = all_ones_blank s.args.word grid.result.rows s.ranges.word.fits grid.ensures.answer judged c.if-word-eq-ALL_ONES.true in (
-      codeword_kept s.args.word grid.result.rows s.ranges.word.fits grid.ensures.answer judged,
-      c.counted.ensures ∙ ap (λ v. counted s.args.self v (pattern_of code_of_grid s.args.word)) (sym is),
+    let is = all_ones_blank c.args.word grid.result.rows c.ranges.word.fits grid.ensures.answer judged c.if-word-eq-ALL_ONES.true in (
+      codeword_kept c.args.word grid.result.rows c.ranges.word.fits grid.ensures.answer judged,
+      c.counted.ensures ∙ ap (λ v. counted c.args.self v (pattern_of code_of_grid c.args.word)) (sym is),
     )
 
 -- any other codeword
 
 pub counted-requires-then-is_codeword : goal.counted-requires-then-is_codeword
 counted-requires-then-is_codeword c =
-    let s = c in
     let grid = c.of_number-grid in
     let judged = subst (Judged grid.result.rows) c.if-is_codeword.true c.is_codeword.ensures in
-    let (d, is) = others_clean s.args.word grid.result.rows s.ranges.word.fits grid.ensures.answer judged c.if-word-eq-ALL_ONES.false in
-    clean_roomy s.args.self (grid_verdict s.args.word) d is s.requires
+    let (d, is) = others_clean c.args.word grid.result.rows c.ranges.word.fits grid.ensures.answer judged c.if-word-eq-ALL_ONES.false in
+    clean_roomy c.args.self (grid_verdict c.args.word) d is c.requires
 
 pub returns-then-is_codeword : goal.returns-then-is_codeword
 returns-then-is_codeword c =
-    let s = c in
     let grid = c.of_number-grid in
     let judged = subst (Judged grid.result.rows) c.if-is_codeword.true c.is_codeword.ensures in
-    let (d, is) = others_clean s.args.word grid.result.rows s.ranges.word.fits grid.ensures.answer judged c.if-word-eq-ALL_ONES.false in (
-      codeword_kept s.args.word grid.result.rows s.ranges.word.fits grid.ensures.answer judged,
-      c.counted-then-is_codeword.ensures ∙ clean_counts s.args.self (grid_verdict s.args.word) d is (pattern_of code_of_grid s.args.word),
+    let (d, is) = others_clean c.args.word grid.result.rows c.ranges.word.fits grid.ensures.answer judged c.if-word-eq-ALL_ONES.false in (
+      codeword_kept c.args.word grid.result.rows c.ranges.word.fits grid.ensures.answer judged,
+      c.counted-then-is_codeword.ensures ∙ clean_counts c.args.self (grid_verdict c.args.word) d is (pattern_of code_of_grid c.args.word),
     )
 
 -- no codeword
 
 pub returns : goal.returns
 returns c =
-    let s = c in
     let of_number = c.of_number-grid in
     let mend = c.mend-answer in (
-      decoded_number s.args.word c.number-number.result of_number.result.rows mend.result s.ranges.word.fits
+      decoded_number c.args.word c.number-number.result of_number.result.rows mend.result c.ranges.word.fits
           of_number.ensures.answer mend.ensures c.number-number.ensures.answer,
       c.counted-2.ensures
-          ∙ ap₂ (counted s.args.self)
-          (decoded_verdict s.args.word of_number.result.rows mend.result s.ranges.word.fits of_number.ensures.answer
+          ∙ ap₂ (counted c.args.self)
+          (decoded_verdict c.args.word of_number.result.rows mend.result c.ranges.word.fits of_number.ensures.answer
           mend.ensures)
-          (decoded_pattern s.args.word of_number.result.rows mend.result s.ranges.word.fits of_number.ensures.answer
+          (decoded_pattern c.args.word of_number.result.rows mend.result c.ranges.word.fits of_number.ensures.answer
           mend.ensures),
     )
