@@ -8,8 +8,8 @@ use Rattle.grid_code.specs.Verdict.{Verdict, clean, blank, mended, lost, IsGridV
 use Rattle.block_code.specs.Equations as block
 use Rattle.block_code.specs.Code.{code_of_block}
 
--- ofGrid d g: the grid of the data d is g, and it is clean. solves d g: g is the codeword of d. read w v p: the verdict on the grid w is v,
--- and the pattern of the flips is p. distant w d n: the grid w is n places from the codeword of d. ofBlock d w: the block of the data d is
+-- of_grid d g: the grid of the data d is g, and it is clean. solves d g: g is the codeword of d. read w v p: the verdict on the grid w is v,
+-- and the pattern of the flips is p. distant w d n: the grid w is n places from the codeword of d. of_block d w: the block of the data d is
 -- w, and it is clean.
 pub data Case : Type 0 where
   of_grid : ℕ → ℕ → Case

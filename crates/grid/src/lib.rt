@@ -152,6 +152,7 @@ impl Grid {
     }
 
     // The verdict on a grid that was read, whatever was done to it, by the trials.
+    #[inline(always)]
     pub fn mend(self) -> Answer
         ensures { Decoded self.rows result }
     {

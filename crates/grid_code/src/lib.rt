@@ -29,19 +29,20 @@ pub fn data_places(value: u16) -> u32
 
 // Rows 0 to 3 from their data places, all four rows at a time: each data place, set once more wherever it counts. Place 4 is the parity of
 // places 0, 1, 2, place 5 that of 0, 2, 3, place 6 that of 1, 2, 3; so place 7, that of all before it, is that of 0, 1, 3. No two of the
-// places set meet, so a sum sets them, and the compiler makes one product of it.
+// places set meet, so a sum sets them, and the compiler makes one product of it. Places 0 and 1 are taken where they stand, and places 2
+// and 3 after one shift, the same for both.
 fn upper(places: u32) -> u32
     ensures { result ≡ codeword (data_of places) % 2 ^ 32 }
 {
-    let lowest = 0x0101_0101;
-    let a = places & lowest;
-    let b = (places >> 1) & lowest;
-    let c = (places >> 2) & lowest;
-    let d = (places >> 3) & lowest;
+    let a = places & 0x0101_0101;
+    let b = places & 0x0202_0202;
+    let moved = places >> 1;
+    let c = moved & 0x0202_0202;
+    let d = moved & 0x0404_0404;
     (a + (a << 4) + (a << 5) + (a << 7))
-        ^ ((b << 1) + (b << 4) + (b << 6) + (b << 7))
-        ^ ((c << 2) + (c << 4) + (c << 5) + (c << 6))
-        ^ ((d << 3) + (d << 5) + (d << 6) + (d << 7))
+        ^ (b + (b << 3) + (b << 5) + (b << 6))
+        ^ ((c << 1) + (c << 3) + (c << 4) + (c << 5))
+        ^ ((d << 1) + (d << 3) + (d << 4) + (d << 5))
 }
 
 // Rows 4 to 7 from rows 0 to 3: the checks of rows that have nothing below them. Each of the four is the parity of all rows but one: row 4

@@ -60,13 +60,13 @@ last_from_lem : (before : ℕ) (ws : List ℕ) (i : ℕ) → LastMended ws i →
 unfolding last_from
 last_from_lem before [] i h = absurd (omega (arith, h.below))
 last_from_lem before (w ∷ ws) zero h =
-    ap (λ (p : ℕ). last_from p ws) (passed_own (grid_verdict w) (pattern_of code_of_grid w) before h.is_mended_lem)
+    ap (λ (p : ℕ). last_from p ws) (passed_own (grid_verdict w) (pattern_of code_of_grid w) before h.mended_here)
     ∙ none_passed (pattern_of code_of_grid w) ws (none_mended ws (λ j l. h.none_behind (suc j) (omega arith) (omega arith)))
 last_from_lem before (w ∷ ws) (suc i) h =
     last_from_lem (passed_on (grid_verdict w) (pattern_of code_of_grid w) before) ws i
     (record {
       below = omega (arith, h.below);
-      is_mended_lem = h.is_mended_lem;
+      mended_here = h.mended_here;
       none_behind = λ j k l. h.none_behind (suc j) (omega arith) (omega arith);
     })
 
@@ -96,10 +96,10 @@ some_last (w ∷ ws) h = go (some_last ws) (dec_lt 0 (sum_grids is_mended ws))
     go : (0 < sum_grids is_mended ws → (i : ℕ) × LastMended ws i) → Dec (0 < sum_grids is_mended ws) → (i : ℕ) × LastMended (w ∷ ws) i
     go there (yes more) =
         let (i, l) = there more in
-        (suc i, record { below = omega (arith, l.below); is_mended_lem = l.is_mended_lem; none_behind = behind i l })
+        (suc i, record { below = omega (arith, l.below); mended_here = l.mended_here; none_behind = behind i l })
     go there (no none) = (
       0,
-      record { below = omega arith; is_mended_lem = counted_once (grid_verdict w) (omega (arith, h)); none_behind = first (omega arith) },
+      record { below = omega arith; mended_here = counted_once (grid_verdict w) (omega (arith, h)); none_behind = first (omega arith) },
     )
 
 -- two parts

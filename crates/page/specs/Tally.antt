@@ -31,7 +31,7 @@ last_pattern page = last_from 0 page
 -- grid i is mended, and none behind it is
 pub record LastMended (page : List ℕ) (i : ℕ) : Type 0 where
   pub below : i < length page
-  pub is_mended_lem : is_mended (grid_verdict (get_or page i 0)) ≡ 1
+  pub mended_here : is_mended (grid_verdict (get_or page i 0)) ≡ 1
   pub none_behind : (j : ℕ) → i < j → j < length page → is_mended (grid_verdict (get_or page j 0)) ≡ 0
 
 -- the tally of a page
