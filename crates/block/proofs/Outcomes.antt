@@ -1,4 +1,5 @@
 -- What the calls leave and answer, over plain values: a block written, and a block found clean, mended or lost. Assumes nothing.
+use Rattle.std.specs.Prelude.{Option, Some, None, Result, Ok, Err}
 use mathlib.Core.Path.{◌≡◌, refl, sym, ap, ap₂, ◌∙◌, subst}
 use mathlib.Core.Logic.{◌≢◌, ◌⊎◌, inl, inr}
 use mathlib.Core.Bool.{Bool, true, false, ◌&&◌, and-false}
@@ -33,16 +34,15 @@ use Rattle.block_code.proofs.Mixing.{mixed_self, mixed_none}
 use Rattle.block_code.proofs.Syndromes.{syndrome_sum, syndrome_zero, syndrome_codeword, codeword_of, codeword_lt}
 use Rattle.block_flips.specs.Steps.{Explains, Unexplained, Nearest}
 use Rattle.block_flips.specs.declared.Flips.{Flips}
-use Rattle.block_flips.specs.declared.Flips.TheVariants.{One, Two, More}
+use Rattle.block_flips.specs.declared.Flips.TheVariants.{One, Two}
 use Rattle.block_words.specs.Steps.{flipped, BlockWritten}
 use Rattle.block_words.proofs.Flips.{joined-flipped}
 use Rattle.block.specs.Answer.{answer_of}
 use Rattle.block.specs.Calls.{Encoded, Scrubbed}
 use Rattle.block.specs.Steps.{flipped_each, answer_for}
-use Rattle.block.specs.declared.EncodeAnswer.TheVariants.{Done as Written, Refused as NotWritten}
 use Rattle.block.specs.declared.BlockVerdict.TheVariants.{Clean, Mended}
-use Rattle.block.specs.declared.BlockAnswer.{BlockAnswer}
-use Rattle.block.specs.declared.BlockAnswer.TheVariants.{Done, Refused}
+use Rattle.block.specs.declared.BlockVerdict.{BlockVerdict}
+use Rattle.refusals.specs.declared.Refusal.{Refusal}
 
 -- ---- a codeword within two places
 
@@ -105,7 +105,7 @@ module _ (ws : List ℕ) (b : IsBlock ws) where
       → pattern ≡ digits 16 38 (bit_xor w y) → exit ≡ digits 16 38 y → Scrubbed ws (record { answer = answer_of v; pattern = pattern }) exit
   scrubs v e i q x = record { answer = rw (right_length, e); pattern = rw (right_length, e, ← i) q; after = rw (right_length, e, ← i) x }
 
-  pub is_clean_lem : syndrome_of w ≡ no_checks → Scrubbed ws (record { answer = Done Clean; pattern = replicate 38 0 }) ws
+  pub is_clean_lem : syndrome_of w ≡ no_checks → Scrubbed ws (record { answer = Ok Clean; pattern = replicate 38 0 }) ws
   is_clean_lem s =
       let hw : w < 2 ^ 608 = block_lt ws b in
       scrubs (clean (w % 2 ^ 512)) (near w w 0 hw s (dist_self w) (omega arith)) (codeword_of w hw s) (ap (digits 16 38) (sym (xor_self w)))
@@ -114,7 +114,7 @@ module _ (ws : List ℕ) (b : IsBlock ws) where
   -- what is left after flips f, as many as f has ones
   mends : (f n : ℕ) {pattern exit : List ℕ} → f < 2 ^ 608 → syndrome_of f ≡ syndrome_of w → ones f ≡ suc n → suc n ≤ 2
       → pattern ≡ digits 16 38 f → exit ≡ digits 16 38 (bit_xor w f)
-      → Scrubbed ws (record { answer = Done (Mended (suc n)); pattern = pattern }) exit
+      → Scrubbed ws (record { answer = Ok (Mended (suc n)); pattern = pattern }) exit
   mends f n hf s o l q x =
       let hw : w < 2 ^ 608 = block_lt ws b in
       let v : ℕ = bit_xor w f in
@@ -141,7 +141,7 @@ module _ (ws : List ℕ) (b : IsBlock ws) where
           (sym (same ∙ ap syndrome_of t.is ∙ syndrome_sum (2 ^ t.first) (2 ^ t.second)))
 
   is_lost_lem : {pattern exit : List ℕ} → syndrome_of w ≢ no_checks → Unexplained (syndrome_of w) → pattern ≡ replicate 38 0 → exit ≡ ws
-      → Scrubbed ws (record { answer = Refused LostBlock; pattern = pattern }) exit
+      → Scrubbed ws (record { answer = Err LostBlock; pattern = pattern }) exit
   is_lost_lem some un q x =
       scrubs lost (none_near code_of_block w (λ d l. far d l (dec_lt 2 (off code_of_block w d)))) refl (q ∙ ap (digits 16 38) (sym (xor_self w)))
       (x ∙ sym (back ws b))
@@ -156,23 +156,23 @@ module _ (ws : List ℕ) (b : IsBlock ws) where
           few d h = subst (λ (n : ℕ). n ≤ 2) (dist-ones w (codeword d)) h
 
   -- the flips that were found undone, where there are at most two
-  pub undoes : {k : Checks} {f : Flips} {r : BlockAnswer} {pattern exit : List ℕ} → k ≡ syndrome_of w → k ≢ no_checks → Nearest k f
+  pub undoes : {k : Checks} {f : Option Flips} {r : Result BlockVerdict Refusal} {pattern exit : List ℕ} → k ≡ syndrome_of w → k ≢ no_checks → Nearest k f
       → r ≡ answer_for f → pattern ≡ flipped_each (replicate 38 0) f → exit ≡ flipped_each ws f
       → Scrubbed ws (record { answer = r; pattern = pattern }) exit
   undoes {k} {f} {r} {pattern} {exit} s some near a q x =
       subst (λ r. Scrubbed ws (record { answer = r; pattern = pattern }) exit) (sym a)
       (go f (subst (λ k. Explains k (Unexplained k) f) s near.answer) q x)
     where
-      go : (f : Flips) → Explains (syndrome_of w) (Unexplained (syndrome_of w)) f → pattern ≡ flipped_each (replicate 38 0) f
+      go : (f : Option Flips) → Explains (syndrome_of w) (Unexplained (syndrome_of w)) f → pattern ≡ flipped_each (replicate 38 0) f
           → exit ≡ flipped_each ws f → Scrubbed ws (record { answer = answer_for f; pattern = pattern }) exit
-      go (One p) (l, e) q x =
+      go (Some (One p)) (l, e) q x =
           mends (2 ^ p) 0 (pow-lt l) e (ones-pow p) (lit< tt) (q ∙ flip_one (replicate 38 0) p no_words l) (x ∙ flip_one ws p b l)
-      go (Two p r) (l, m, e) q x =
+      go (Some (Two p r)) (l, m, e) q x =
           let low : p < 608 = lt_trans l m in
           mends (bit_xor (2 ^ p) (2 ^ r)) 1 (xor_lt 608 (2 ^ p) (2 ^ r) (pow-lt low) (pow-lt m)) (syndrome_sum (2 ^ p) (2 ^ r) ∙ e)
           (ones_two p r (λ e. absurd (omega arith))) (lit< tt) (q ∙ flip_two (replicate 38 0) p r no_words low m)
           (x ∙ flip_two ws p r b low m)
-      go More un q x = is_lost_lem (λ e. some (s ∙ e)) un q x
+      go None un q x = is_lost_lem (λ e. some (s ∙ e)) un q x
 
 -- ---- whether the lengths are right
 
@@ -184,7 +184,7 @@ not_allowed values before (inl ne) = ap (λ (t : Bool). t && eqb (length before)
 not_allowed values before (inr ne) = ap (λ (t : Bool). eqb (length values) 32 && t) (ne_eqb (length before) 38 ne) ∙ and-false (eqb (length values) 32)
 
 pub encoded : (values before exit : List ℕ) → length values ≡ 32 → length before ≡ 38 → Below 16 values → BlockWritten values before exit
-    → Encoded values before Written exit
+    → Encoded values before (Ok tt) exit
 encoded values before exit n m h w =
     let d : ℕ = joined 16 values in
     let l : d < 2 ^ 512 = joined_lt 16 32 values n h in
@@ -192,7 +192,7 @@ encoded values before exit n m h w =
     let block : exit ≡ digits 16 38 (codeword d) =
     w.after ∙ ap {B = List ℕ} (λ (t : Bool). choose t (digits 16 38 (codeword d)) before) yes in
     record {
-      answer = sym (ap (λ (t : Bool). choose t Written (NotWritten Length)) yes);
+      answer = sym (ap (λ (t : Bool). choose t (Ok tt) (Err Length)) yes);
       after = w.after;
       meets = λ done. subst (Codeword d) (sym (ap (joined 16) block ∙ joined-digits 16 38 (codeword d) (codeword_lt d l))) (meets d l);
     }

@@ -1,4 +1,5 @@
 -- What specs/Promises.antt says of the block's calls holds. Assumes nothing.
+use Rattle.std.specs.Prelude.{Err, Ok, Result, ⊤}
 use mathlib.Core.Path.{◌≡◌, refl, sym, ap, ◌∙◌, subst}
 use mathlib.Core.Logic.{◌≢◌, ◌⊎◌, inl, inr}
 use mathlib.Core.Bool.{Bool, true, false}
@@ -29,10 +30,9 @@ use Rattle.block_code.proofs.Syndromes.{codeword_lt, data-words}
 use Rattle.block.specs.Answer.{answer_of, data_in, means, encode_means}
 use Rattle.block.specs.Calls.{Encoded, Scrubbed}
 use Rattle.block.specs.Promises.{EncodePromises, ScrubPromises, OneOutcome}
-use Rattle.block.specs.declared.EncodeAnswer.{EncodeAnswer}
-use Rattle.block.specs.declared.EncodeAnswer.TheVariants.{Done as Written, Refused as NotWritten}
 use Rattle.block.specs.declared.Scrub.{Scrub}
 use Rattle.block.proofs.Outcomes.{block_lt, back, is_allowed, not_allowed}
+use Rattle.refusals.specs.declared.Refusal.{Refusal}
 
 -- ---- the encoder
 
@@ -47,15 +47,15 @@ whole d h = joined-digits 16 38 (codeword d) (codeword_lt d h)
 data_back : (d : ℕ) → d < 2 ^ 512 → data_in (digits 16 38 (codeword d)) ≡ d
 data_back d h = ap (joined 16) (front d h) ∙ joined-digits 16 32 d h
 
-module _ (values before exit : List ℕ) (r : EncodeAnswer) (h : Encoded values before r exit) where
+module _ (values before exit : List ℕ) (r : Result ⊤ Refusal) (h : Encoded values before r exit) where
   by_test : (t : Bool) → allowed values before ≡ t
-      → (r ≡ choose t Written (NotWritten Length)) × (exit ≡ choose t (digits 16 38 (codeword (joined 16 values))) before)
+      → (r ≡ choose t (Ok tt) (Err Length)) × (exit ≡ choose t (digits 16 38 (codeword (joined 16 values))) before)
   by_test t e = (
-    h.answer ∙ ap (λ (t : Bool). choose t Written (NotWritten Length)) e,
+    h.answer ∙ ap (λ (t : Bool). choose t (Ok tt) (Err Length)) e,
     h.after ∙ ap {B = List ℕ} (λ (t : Bool). choose t (digits 16 38 (codeword (joined 16 values))) before) e,
   )
 
-  accepted : length values ≡ 32 → length before ≡ 38 → (r ≡ Written) × (exit ≡ digits 16 38 (codeword (joined 16 values)))
+  accepted : length values ≡ 32 → length before ≡ 38 → (r ≡ Ok tt) × (exit ≡ digits 16 38 (codeword (joined 16 values)))
   accepted n m = by_test true (is_allowed values before n m)
 
   not_written : (length values ≢ 32) ⊎ (length before ≢ 38) → (encode_means r exit ≡ refuses 3) × (exit ≡ before)
@@ -63,7 +63,7 @@ module _ (values before exit : List ℕ) (r : EncodeAnswer) (h : Encoded values 
 
   -- what is given is the block of the data
   abbrev Done : List ℕ → Type 0
-  Done ws = (length values ≡ 32) × (r ≡ Written) × (ws ≡ exit) × (exit ≡ digits 16 38 (codeword (joined 16 values)))
+  Done ws = (length values ≡ 32) × (r ≡ Ok tt) × (ws ≡ exit) × (exit ≡ digits 16 38 (codeword (joined 16 values)))
 
   done : (ws : List ℕ) → encode_means r exit ≡ gives ws → Done ws
   done ws e = go (ℕ_discrete (length values) 32) (ℕ_discrete (length before) 38)

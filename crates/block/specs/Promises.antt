@@ -1,6 +1,6 @@
 -- What is proved of the block's calls, whatever was given (`encode_promised`, `scrub_promised`, `one_outcome`). What is proved of the code
 -- stands in the crate block_code. Assumes nothing.
-use Rattle.std.specs.Prelude.{◌≡◌, ◌≢◌, ◌⊎◌, List, ℕ, ◌^◌, ◌≤◌, ◌<◌, length, take, replicate}
+use Rattle.std.specs.Prelude.{◌≡◌, ◌≢◌, ◌⊎◌, List, ℕ, ◌^◌, ◌≤◌, ◌<◌, length, take, replicate, Result, ⊤}
 use Rattle.std.specs.Int.Bits.{bit_xor}
 use Rattle.std.specs.Int.Count.{ones}
 use Rattle.words.specs.Word.{dist}
@@ -14,20 +14,20 @@ use Rattle.block_code.specs.Equations.{Codeword}
 use Rattle.block_code.specs.Code.{codeword, code_of_block}
 use Rattle.block.specs.Answer.{data_in, means, encode_means}
 use Rattle.block.specs.Calls.{Encoded, Scrubbed}
-use Rattle.block.specs.declared.EncodeAnswer.{EncodeAnswer}
 use Rattle.block.specs.declared.Scrub.{Scrub}
+use Rattle.refusals.specs.declared.Refusal.{Refusal}
 
 -- What the encoder promises.
 pub record EncodePromises : Type 0 where
   -- Exactly 32 words in and exactly 38 out are accepted; any other length is refusal 3, and nothing is written.
-  pub accepted : (values before exit : List ℕ) (r : EncodeAnswer) → length values ≡ 32 → length before ≡ 38 → Encoded values before r exit
-      → encode_means r exit ≡ gives (digits 16 38 (codeword (joined 16 values)))
-  pub refused : (values before exit : List ℕ) (r : EncodeAnswer) → (length values ≢ 32) ⊎ (length before ≢ 38) → Encoded values before r exit
-      → (encode_means r exit ≡ refuses 3) × (exit ≡ before)
+  pub accepted : (values before exit : List ℕ) (r : Result ⊤ Refusal) → length values ≡ 32 → length before ≡ 38
+      → Encoded values before r exit → encode_means r exit ≡ gives (digits 16 38 (codeword (joined 16 values)))
+  pub refused : (values before exit : List ℕ) (r : Result ⊤ Refusal) → (length values ≢ 32) ⊎ (length before ≢ 38)
+      → Encoded values before r exit → (encode_means r exit ≡ refuses 3) × (exit ≡ before)
   -- What is given meets the equations, and words 0 to 31 are the data as given.
-  pub meets : (values before exit ws : List ℕ) (r : EncodeAnswer) → Encoded values before r exit → encode_means r exit ≡ gives ws
+  pub meets : (values before exit ws : List ℕ) (r : Result ⊤ Refusal) → Encoded values before r exit → encode_means r exit ≡ gives ws
       → Codeword (joined 16 values) (joined 16 ws)
-  pub data_kept : (values before exit ws : List ℕ) (r : EncodeAnswer) → Below 16 values → Encoded values before r exit
+  pub data_kept : (values before exit ws : List ℕ) (r : Result ⊤ Refusal) → Below 16 values → Encoded values before r exit
       → encode_means r exit ≡ gives ws → take 32 ws ≡ values
 
 -- What the scrub promises, whatever was read.
@@ -44,8 +44,8 @@ pub record ScrubPromises : Type 0 where
       → IsVerdict code_of_block (joined 16 ws) v
       → (means r.answer exit ≡ replied LostBlock v) × (exit ≡ digits 16 38 (repaired code_of_block (joined 16 ws) v))
   pub has_verdict : (ws : List ℕ) → (v : Verdict) × IsVerdict code_of_block (joined 16 ws) v
-  -- Demand 3: a block is put right exactly where some codeword is within 2 places; it is that codeword then, every other is further off, and
-  -- the flips are the places that differ.
+  -- Demand 3: a block is put right exactly where some codeword is within 2 places; it is that codeword then, every other is further off,
+  -- and the flips are the places that differ.
   pub demand3 : (ws exit : List ℕ) (r : Scrub) → length ws ≡ 38 → Scrubbed ws r exit
       → (v : Verdict) × (means r.answer exit ≡ replied LostBlock v) × Demand3 code_of_block (joined 16 ws) v
   -- So, where some codeword is within 2 places, the words are that codeword afterwards; where none is, the block is lost.
@@ -77,7 +77,7 @@ pub record ScrubPromises : Type 0 where
   pub pattern_refused : (ws exit : List ℕ) (r : Scrub) → Scrubbed ws r exit → ((v : Verdict) → means r.answer exit ≢ gives v)
       → r.pattern ≡ replicate 38 0
   -- What was encoded is clean, with the same data, and stays as it is.
-  pub encoded : (values before ws exit given : List ℕ) (a : EncodeAnswer) (r : Scrub) → Below 16 values → Encoded values before a ws
+  pub encoded : (values before ws exit given : List ℕ) (a : Result ⊤ Refusal) (r : Scrub) → Below 16 values → Encoded values before a ws
       → encode_means a ws ≡ gives given → Scrubbed ws r exit → (means r.answer exit ≡ gives (clean (joined 16 values))) × (exit ≡ ws)
   -- Up to two flips of a written block, checks included, are undone, with the right data and count, and they are the pattern.
   pub undone : (d p : ℕ) (exit : List ℕ) (r : Scrub) → d < 2 ^ 512 → p < 2 ^ 608 → ones p ≤ code_of_block.radius
@@ -90,5 +90,6 @@ pub record ScrubPromises : Type 0 where
 
 -- No second outcome satisfies the statement of a call.
 pub record OneOutcome : Type 0 where
-  pub encode : (values before a b : List ℕ) (r s : EncodeAnswer) → Encoded values before r a → Encoded values before s b → (r ≡ s) × (a ≡ b)
+  pub encode : (values before a b : List ℕ) (r s : Result ⊤ Refusal) → Encoded values before r a → Encoded values before s b
+      → (r ≡ s) × (a ≡ b)
   pub scrub : (ws a b : List ℕ) (r s : Scrub) → Scrubbed ws r a → Scrubbed ws s b → (r ≡ s) × (a ≡ b)

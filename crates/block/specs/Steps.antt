@@ -1,21 +1,21 @@
 -- What the private steps compute, so that their contracts can say it. No promise to a caller cites this file. Assumes nothing.
-use Rattle.std.specs.Prelude.{List, ℕ}
+use Rattle.std.specs.Prelude.{List, ℕ, Option, Some, None, Result, Ok, Err}
 use Rattle.refusals.specs.declared.Refusal.TheVariants.{LostBlock}
 use Rattle.block_flips.specs.declared.Flips.{Flips}
-use Rattle.block_flips.specs.declared.Flips.TheVariants.{One, Two, More}
+use Rattle.block_flips.specs.declared.Flips.TheVariants.{One, Two}
 use Rattle.block_words.specs.Steps.{flipped}
 use Rattle.block.specs.declared.BlockVerdict.TheVariants.{Mended}
-use Rattle.block.specs.declared.BlockAnswer.{BlockAnswer}
-use Rattle.block.specs.declared.BlockAnswer.TheVariants.{Done, Refused}
+use Rattle.block.specs.declared.BlockVerdict.{BlockVerdict}
+use Rattle.refusals.specs.declared.Refusal.{Refusal}
 
 -- the words with each of these places flipped
-abbrev pub flipped_each : List ℕ → Flips → List ℕ
-flipped_each ws (One p) = flipped ws p
-flipped_each ws (Two p q) = flipped (flipped ws p) q
-flipped_each ws More = ws
+abbrev pub flipped_each : List ℕ → Option Flips → List ℕ
+flipped_each ws (Some (One p)) = flipped ws p
+flipped_each ws (Some (Two p q)) = flipped (flipped ws p) q
+flipped_each ws None = ws
 
 -- what is answered where these flips are undone
-abbrev pub answer_for : Flips → BlockAnswer
-answer_for (One p) = Done (Mended 1)
-answer_for (Two p q) = Done (Mended 2)
-answer_for More = Refused LostBlock
+abbrev pub answer_for : Option Flips → (Result BlockVerdict Refusal)
+answer_for (Some (One p)) = Ok (Mended 1)
+answer_for (Some (Two p q)) = Ok (Mended 2)
+answer_for None = Err LostBlock

@@ -18,43 +18,27 @@
 // specs/Calls.antt has what each call promises, and specs/Promises.antt what is proved of the calls.
 #![tactic(auto)]
 
-ghost use Rattle.std.specs.Prelude.{◌≡◌, ◌≢◌, length};
-ghost use Rattle.words.specs.Digits.{joined};
+ghost use Rattle.std.specs.Prelude.{◌≡◌, replicate};
 ghost use Rattle.codes.specs.Promises.{States};
 ghost use Rattle.block_code.specs.Code.{code_of_block};
-ghost use Rattle.block_code.specs.Checks.{no_checks, syndrome_of};
 ghost use Rattle.block.specs.Calls.{Encoded, Scrubbed};
 ghost use Rattle.block.specs.Steps.{flipped_each, answer_for};
 
-use block_code::Checks;
 use block_flips::Flips;
 use refusals::Refusal;
 
-// The answer of the encoder. It refuses a slice whose length is not allowed.
-#[derive(Drop)]
-pub enum EncodeAnswer {
-    Done,
-    Refused(Refusal),
-}
-
 // The verdict on a block that is not lost. The data is in the words.
-#[derive(Drop)]
+#[derive(Clone, Copy, Debug, PartialEq, Eq)]
 pub enum BlockVerdict {
     Clean,
     Mended { flips: u32 },
 }
 
-// The answer of a scrub. It refuses a block that is lost, and any number of words but 38.
-#[derive(Drop)]
-pub enum BlockAnswer {
-    Done(BlockVerdict),
-    Refused(Refusal),
-}
-
-// The answer of a scrub, and beside it the pattern of the flips: all zero where the block is clean or refused.
+// The answer of a scrub, which refuses a block that is lost and any number of words but 38; and beside it the pattern of the flips: all
+// zero where the block is clean or refused. It stands outside the `Result`, for the theorem `pattern_refused` speaks of it on a refusal.
 #[derive(Drop)]
 pub struct Scrub {
-    pub answer: BlockAnswer,
+    pub answer: Result<BlockVerdict, Refusal>,
     pub pattern: [u16; 38],
 }
 
@@ -69,7 +53,7 @@ const WORDS: usize = 38;
 
 // Each of the flips made, in some words.
 fn flip_each(words: &mut [u16], flips: Flips)
-    ensures { words.new ≡ flipped_each words.old flips }
+    ensures { words.new ≡ flipped_each words.old (Some flips) }
 {
     match flips {
         Flips::One(p) => {
@@ -79,33 +63,26 @@ fn flip_each(words: &mut [u16], flips: Flips)
             block_words::flip(words, p);
             block_words::flip(words, q);
         }
-        Flips::More => {}
     }
 }
 
-// What is answered where these flips are undone.
-fn answer_for(flips: Flips) -> BlockAnswer
-    ensures { result ≡ answer_for flips }
+// The verdict where these flips are undone.
+fn mended(flips: Flips) -> BlockVerdict
+    ensures { answer_for (Some flips) ≡ Ok result }
 {
     match flips {
-        Flips::One(_) => BlockAnswer::Done(BlockVerdict::Mended { flips: 1 }),
-        Flips::Two(_, _) => BlockAnswer::Done(BlockVerdict::Mended { flips: 2 }),
-        Flips::More => BlockAnswer::Refused(Refusal::LostBlock),
+        Flips::One(_) => BlockVerdict::Mended { flips: 1 },
+        Flips::Two(_, _) => BlockVerdict::Mended { flips: 2 },
     }
 }
 
-// The flips that explain the syndrome s undone, where there are not more than two. The same flips in words of zero are the pattern.
-fn mend(words: &mut [u16], s: Checks) -> Scrub
-    requires { (length words.old ≡ 38) × (s ≡ syndrome_of (joined 16 words.old)) × (s ≢ no_checks) }
-    ensures { Scrubbed words.old result words.new }
+// An answer where nothing is flipped.
+fn unchanged(answer: Result<BlockVerdict, Refusal>) -> Scrub
+    ensures { result ≡ record { answer = answer; pattern = replicate 38 0 } }
 {
-    let found = block_flips::nearest(s);
-    let mut pattern = [0u16; 38];
-    flip_each(&mut pattern, found);
-    flip_each(words, found);
     Scrub {
-        answer: answer_for(found),
-        pattern,
+        answer,
+        pattern: [0; 38],
     }
 }
 
@@ -118,38 +95,38 @@ impl Block {
 
     // The block of 32 data words, into 38 words. Any other length is refused, and nothing is written. RADIUS, LENGTH and DISTANCE are the
     // code's own.
-    pub fn encode(values: &[u16], words: &mut [u16]) -> EncodeAnswer
+    pub fn encode(values: &[u16], words: &mut [u16]) -> Result<(), Refusal>
         ensures encoded { Encoded values.now words.old result words.new }
         ensures constants { States code_of_block Block.RADIUS Block.LENGTH Block.DISTANCE }
     {
-        if values.len() != VALUES {
-            return EncodeAnswer::Refused(Refusal::Length);
-        }
-        if words.len() != WORDS {
-            return EncodeAnswer::Refused(Refusal::Length);
+        if values.len() != VALUES || words.len() != WORDS {
+            return Err(Refusal::Length);
         }
         block_words::write(values, words);
-        EncodeAnswer::Done
+        Ok(())
     }
 
     // The nearest codeword in place of the 38 words that were read, where it is within two places. Where none is, or where the length is
-    // another, nothing is written.
+    // another, nothing is written. The flips that are undone, made in words of zero, are the pattern.
     pub fn scrub(words: &mut [u16]) -> Scrub
         ensures { Scrubbed words.old result words.new }
     {
         if words.len() != WORDS {
-            return Scrub {
-                answer: BlockAnswer::Refused(Refusal::Length),
-                pattern: [0; 38],
-            };
+            return unchanged(Err(Refusal::Length));
         }
-        let s = block_words::syndrome(words);
-        if !block_code::is_none(s) {
-            return mend(words, s);
+        let syndrome = block_words::syndrome(words);
+        if syndrome.is_none() {
+            return unchanged(Ok(BlockVerdict::Clean));
         }
+        let Some(flips) = block_flips::nearest(syndrome) else {
+            return unchanged(Err(Refusal::LostBlock));
+        };
+        let mut pattern = [0; 38];
+        flip_each(&mut pattern, flips);
+        flip_each(words, flips);
         Scrub {
-            answer: BlockAnswer::Done(BlockVerdict::Clean),
-            pattern: [0; 38],
+            answer: Ok(mended(flips)),
+            pattern,
         }
     }
 }

@@ -42,11 +42,11 @@ abbrev pub check_words : Checks → List ℕ
 check_words k =
     k.rows % 2 ^ 16 ∷ k.rows / 2 ^ 16 ∷ k.columns ∷ k.diagonals % 2 ^ 16 ∷ k.diagonals / 2 ^ 16 % 2 ^ 16 ∷ k.diagonals / 2 ^ 32 ∷ []
 
--- `block_code::mix`
+-- `^` on `Checks`
 pub record Mixed (a b r : Checks) : Type 0 where
   pub answer : r ≡ mixed a b
 
--- `block_code::is_none`
+-- `Checks::is_none`
 pub record IsNone (s : Checks) (r : Bool) : Type 0 where
   pub answer : r ≡ none_set s
 

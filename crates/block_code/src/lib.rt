@@ -8,8 +8,10 @@
 
 ghost use Rattle.block_code.specs.Checks.{Mixed, IsNone, OfPlace};
 
+use std::ops::BitXor;
+
 // Row parities, column parities, and the diagonals with the system parity as bit 47.
-#[derive(Clone, Copy)]
+#[derive(Clone, Copy, Debug, Default, PartialEq, Eq)]
 pub struct Checks {
     pub rows: u32,
     pub columns: u16,
@@ -17,64 +19,56 @@ pub struct Checks {
 }
 
 // Where two differ.
-pub fn mix(a: Checks, b: Checks) -> Checks
-    ensures { Mixed a b result }
-{
-    Checks {
-        rows: a.rows ^ b.rows,
-        columns: a.columns ^ b.columns,
-        diagonals: a.diagonals ^ b.diagonals,
+impl BitXor for Checks {
+    type Output = Checks;
+
+    ghost bitxor_gives = { λ a b r. Mixed a b r };
+
+    fn bitxor(self, other: Checks) -> Checks {
+        Checks {
+            rows: self.rows ^ other.rows,
+            columns: self.columns ^ other.columns,
+            diagonals: self.diagonals ^ other.diagonals,
+        }
     }
 }
 
-// Whether none is set.
-pub fn is_none(a: Checks) -> bool
-    ensures { IsNone a result }
-{
-    if a.rows != 0 {
-        return false;
+impl Checks {
+    // Whether none is set.
+    pub fn is_none(self) -> bool
+        ensures { IsNone self result }
+    {
+        self == Checks::default()
     }
-    if a.columns != 0 {
-        return false;
-    }
-    a.diagonals == 0
 }
 
 // The checks that a flip at `place` changes: those that a data place stands in, or the check itself, and none past the last of the 608.
+// No Option: by docs/PROMISES.md a step accepts every input, and `OfPlace` has this answer.
 pub fn of_place(place: usize) -> Checks
     ensures { OfPlace place result }
 {
-    if place < 512 {
-        let row = place / 16;
-        let bit = place % 16;
-        return Checks {
-            rows: 1u32 << row,
-            columns: 1u16 << bit,
-            diagonals: (1u64 << (row + bit)) ^ (1u64 << 47),
-        };
-    }
-    if place < 544 {
-        return Checks {
-            rows: 1u32 << (place - 512),
-            columns: 0,
-            diagonals: 0,
-        };
-    }
-    if place < 560 {
-        return Checks {
-            rows: 0,
-            columns: 1u16 << (place - 544),
-            diagonals: 0,
-        };
-    }
-    let diagonals = if place < 608 {
-        1u64 << (place - 560)
-    } else {
-        0
-    };
-    Checks {
-        rows: 0,
-        columns: 0,
-        diagonals,
+    match place {
+        0..512 => {
+            let row = place / 16;
+            let bit = place % 16;
+            Checks {
+                rows: 1 << row,
+                columns: 1 << bit,
+                diagonals: (1 << (row + bit)) ^ (1 << 47),
+            }
+        }
+        512..544 => Checks {
+            rows: 1 << (place - 512),
+            ..Checks::default()
+        },
+        544..560 => Checks {
+            columns: 1 << (place - 544),
+            ..Checks::default()
+        },
+        560..608 => Checks {
+            diagonals: 1 << (place - 560),
+            ..Checks::default()
+        },
+        _ => Checks::default(),
     }
 }

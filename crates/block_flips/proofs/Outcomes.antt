@@ -1,5 +1,6 @@
 -- What specs/Outcomes.antt says of the search holds: at most two flips are told from others by their syndrome. Assumes nothing.
-use mathlib.Core.Path.{◌≡◌, sym, ap, ap₂, ◌∙◌}
+use Rattle.std.specs.Prelude.{Option, Some, None}
+use mathlib.Core.Path.{◌≡◌, refl, sym, ap, ap₂, ◌∙◌}
 use Prim.Native.Nat.{ℕ, ◌^◌, ◌<◌}
 use native.Mathlib.Nat.{lt_trans}
 use native.Mathlib.Omega.{arith}
@@ -15,7 +16,7 @@ use Rattle.block_code.proofs.Syndromes.{syndrome_sum}
 use Rattle.block_flips.specs.Steps.{Explains, Unexplained}
 use Rattle.block_flips.specs.Outcomes.{OneOutcome}
 use Rattle.block_flips.specs.declared.Flips.{Flips}
-use Rattle.block_flips.specs.declared.Flips.TheVariants.{One, Two, More}
+use Rattle.block_flips.specs.declared.Flips.TheVariants.{One, Two}
 
 -- two places, as one number
 abbrev both : ℕ → ℕ → ℕ
@@ -47,22 +48,22 @@ two_named p q r t l hq m ht e =
     (lower, sym (trailing_pow 608 q hq) ∙ ap (count_trailing_zeros 608) rest ∙ trailing_pow 608 t ht)
 
 module _ (s : Checks) where
-  abbrev Answer : Flips → Type 0
+  abbrev Answer : Option Flips → Type 0
   Answer f = Explains s (Unexplained s) f
 
-  not_more : (p q : ℕ) → Answer (Two p q) → Unexplained s → ⊥
+  not_more : (p q : ℕ) → Answer (Some (Two p q)) → Unexplained s → ⊥
   not_more p q (l, h, e) un = un.paired p q (lt_trans l h) h (λ z. absurd (omega arith)) e
 
-  one_answer : (f g : Flips) → Answer f → Answer g → f ≡ g
-  one_answer (One p) (One q) (h, e) (l, d) = ap One (same_place p q h l (e ∙ sym d))
-  one_answer (One p) (Two q r) (h, e) (l, m, d) = absurd (one_or_two p q r h l m (e ∙ sym d))
-  one_answer (One p) More (h, e) un = absurd (un.alone p h e)
-  one_answer (Two q r) (One p) (l, m, d) (h, e) = absurd (one_or_two p q r h l m (e ∙ sym d))
-  one_answer (Two p q) (Two r t) (l, h, e) (m, k, d) = let (a, b) = two_named p q r t l h m k (e ∙ sym d) in ap₂ Two a b
-  one_answer (Two p q) More two un = absurd (not_more p q two un)
-  one_answer More (One p) un (h, e) = absurd (un.alone p h e)
-  one_answer More (Two p q) un two = absurd (not_more p q two un)
-  one_answer More More un vn = λ i. More
+  one_answer : (f g : Option Flips) → Answer f → Answer g → f ≡ g
+  one_answer (Some (One p)) (Some (One q)) (h, e) (l, d) = ap (λ p. Some (One p)) (same_place p q h l (e ∙ sym d))
+  one_answer (Some (One p)) (Some (Two q r)) (h, e) (l, m, d) = absurd (one_or_two p q r h l m (e ∙ sym d))
+  one_answer (Some (One p)) None (h, e) un = absurd (un.alone p h e)
+  one_answer (Some (Two q r)) (Some (One p)) (l, m, d) (h, e) = absurd (one_or_two p q r h l m (e ∙ sym d))
+  one_answer (Some (Two p q)) (Some (Two r t)) (l, h, e) (m, k, d) = let (a, b) = two_named p q r t l h m k (e ∙ sym d) in ap₂ (λ p q. Some (Two p q)) a b
+  one_answer (Some (Two p q)) None two un = absurd (not_more p q two un)
+  one_answer None (Some (One p)) un (h, e) = absurd (un.alone p h e)
+  one_answer None (Some (Two p q)) un two = absurd (not_more p q two un)
+  one_answer None None un vn = refl
 
 pub one_outcome : OneOutcome
 one_outcome = record { nearest = λ k r s p q. one_answer k r s p.answer q.answer }

@@ -1,22 +1,26 @@
 -- The steps of the search for flips, over plain values: a place that explains a syndrome, alone or with another. Assumes nothing.
+use Rattle.std.specs.Prelude.{Option, Some, None}
 use mathlib.Core.Path.{◌≡◌, refl, sym, ap, ◌∙◌, subst}
 use mathlib.Core.Logic.{◌⊎◌, inl, inr, ◌≢◌}
-use mathlib.Core.Bool.{Bool, true, false, true≢false}
-use Prim.Native.Nat.{ℕ, ◌+◌, ◌*◌, ◌^◌, ◌≤◌, ◌<◌}
+use mathlib.Core.Bool.{Bool, true, false}
+use Prim.Native.Nat.{ℕ, ◌≤◌, ◌<◌}
 use native.Mathlib.Omega.{arith}
-use lib.Bits.{bit_xor}
-use lib.Dec.{eqb}
-use borrow.Author.Tests.{eqb-true, eqb-false, lt-ltb, le-ltb}
+use borrow.Author.Tests.{lt-ltb, le-ltb}
 use Rattle.block_code.specs.Checks.{no_checks, mixed, none_set, of_place}
 use Rattle.block_code.specs.declared.Checks.{Checks}
 use Rattle.block_code.proofs.Distance.{same_place}
 use Rattle.block_code.proofs.Mixing.{mixed_self, mixed_comm, mixed_back, eq_of_mixed, none_set_lem, some_set}
-use Rattle.block_code.proofs.Places.{data_at, place-data}
 use Rattle.block_flips.specs.Steps.{lowest_of, Explained, OnlyPlace, RuledOut, Attempted, Among, Guessed, Unexplained, in_order}
-use Rattle.block_flips.specs.declared.Flips.TheVariants.{One, More}
-use Rattle.block_flips.proofs.Naming.{Only, order}
+use Rattle.block_flips.specs.declared.Flips.TheVariants.{One}
+use Rattle.block_flips.proofs.Naming.{Only, order, low32, low16, only_check}
 
 -- ---- one place
+
+pub same_number : {p q : ℕ} → Some p ≡ Some q → p ≡ q
+same_number e = cc
+
+pub not_both : {p : ℕ} {o : Option ℕ} → o ≡ None → o ≡ Some p → ⊥
+not_both n e = cc
 
 module _ (s : Checks) (p : ℕ) where
   -- what is left after it is none exactly where it is all
@@ -32,36 +36,28 @@ module _ (s : Checks) (p : ℕ) where
     no = λ e l q. some_set (mixed s (of_place p)) (sym n ∙ e) (none_left q);
   }
 
-  pub not_alone : Only s p → Explained p s false → OnlyPlace s 608
-  not_alone only x = record {
-    sound = λ h. absurd (omega arith);
-    all = λ q h e.
-        let same : p ≡ q = only q h e in
-        absurd (x.no refl (subst (λ (z : ℕ). z < 608) (sym same) h) (ap of_place same ∙ e));
+  pub is_alone : Explained p s true → OnlyPlace s (Some p)
+  is_alone x = record {
+    sound = λ q e. subst (λ (z : ℕ). (z < 608) × (of_place z ≡ s)) (same_number e) (x.yes refl);
+    all = λ q e. cc;
   }
 
--- ---- a data place, check by check
+  pub not_alone : Only s p → Explained p s false → OnlyPlace s None
+  not_alone only x = record {
+    sound = λ q e. cc;
+    all = λ q _ h e.
+        let same : p ≡ q = only q h e in
+        x.no refl (subst (λ (z : ℕ). z < 608) (sym same) h) (ap of_place same ∙ e);
+  }
 
-module _ (s : Checks) (r c : ℕ) (hr : r < 32) (hc : c < 16) where
-  pub other_data : data_at r c ≢ s → Explained (16 * r + c) s false
-  other_data ne = record { yes = λ e. absurd (true≢false (sym e)); no = λ e h q. ne (sym (place-data r c hr hc) ∙ q) }
-
-  pub by_diagonal : s.rows ≡ 2 ^ r → s.columns ≡ 2 ^ c → Explained (16 * r + c) s (eqb s.diagonals (bit_xor (2 ^ (r + c)) (2 ^ 47)))
-  by_diagonal x y = go (eqb s.diagonals (bit_xor (2 ^ (r + c)) (2 ^ 47))) refl
-    where
-      go : (b : Bool) → eqb s.diagonals (bit_xor (2 ^ (r + c)) (2 ^ 47)) ≡ b → Explained (16 * r + c) s b
-      go true e =
-          let z = eqb-true s.diagonals (bit_xor (2 ^ (r + c)) (2 ^ 47)) e in
-          record {
-            yes = λ t. (omega arith, place-data r c hr hc ∙ (λ i. record { rows = sym x i; columns = sym y i; diagonals = sym z i }));
-            no = λ t. absurd (true≢false t);
-          }
-      go false e = other_data (λ q. eqb-false s.diagonals (bit_xor (2 ^ (r + c)) (2 ^ 47)) e (sym (ap (λ (k : Checks). k.diagonals) q)))
+-- no check is set, so no place leaves just a check
+pub no_check : (s : Checks) → 608 ≤ lowest_of s → (low32 s ≡ 32) ⊎ (low16 s ≡ 16) → OnlyPlace s None
+no_check s n z = record { sound = λ q e. cc; all = λ q _ h e. absurd (omega (arith, only_check s (lowest_of s) refl z q h e)) }
 
 -- ---- a place tried
 
 module _ (s : Checks) (p : ℕ) where
-  pub tried_one : p < 608 → none_set (mixed s (of_place p)) ≡ true → Attempted s p (One p)
+  pub tried_one : p < 608 → none_set (mixed s (of_place p)) ≡ true → Attempted s p (Some (One p))
   tried_one h n = (h, left_none s p (none_set_lem (mixed s (of_place p)) n))
 
   -- another place that explains s with p is all that is left
@@ -78,35 +74,41 @@ module _ (s : Checks) (p : ℕ) where
     paired = λ r h l ne e. ne (only r h l (left r e));
   }
 
-  pub tried_two : (q : ℕ) → p < 608 → q < 608 → none_set (mixed s (of_place p)) ≡ false → OnlyPlace (mixed s (of_place p)) q
+  pub tried_two : (q : ℕ) → p < 608 → none_set (mixed s (of_place p)) ≡ false → OnlyPlace (mixed s (of_place p)) (Some q)
       → Attempted s p (in_order p q)
-  tried_two q h l n a = go (order p q)
+  tried_two q h n a = go (order p q)
     where
+      l : q < 608
+      l = (a.sound q refl).0
+
+      its : of_place q ≡ mixed s (of_place p)
+      its = (a.sound q refl).1
+
       is : mixed (of_place p) (of_place q) ≡ s
-      is = ap (mixed (of_place p)) (a.sound l ∙ mixed_comm s (of_place p)) ∙ mixed_back (of_place p) s
+      is = ap (mixed (of_place p)) (its ∙ mixed_comm s (of_place p)) ∙ mixed_back (of_place p) s
 
       go : (p < q) ⊎ ((q < p) ⊎ (p ≡ q)) → Attempted s p (in_order p q)
       go (inl m) = rw (lt-ltb p q m) (m, l, is)
       go (inr (inl m)) = rw (le-ltb p q (omega arith), lt-ltb q p m) (m, h, mixed_comm (of_place q) (of_place p) ∙ is)
       go (inr (inr m)) =
           rw (le-ltb p q (omega arith), le-ltb q p (omega arith))
-          (ruled_out n (λ r g k e. same_place p r g k (ap of_place m ∙ a.sound l ∙ sym e)))
+          (ruled_out n (λ r g k e. same_place p r g k (ap of_place m ∙ its ∙ sym e)))
 
   -- what is left is not none, and no place alone explains it
-  pub tried_more : (q : ℕ) → none_set (mixed s (of_place p)) ≡ false → OnlyPlace (mixed s (of_place p)) q → 608 ≤ q → Attempted s p More
-  tried_more q n a l = ruled_out n (λ r h m e. absurd (omega (arith, l, a.all r m e)))
+  pub tried_more : none_set (mixed s (of_place p)) ≡ false → OnlyPlace (mixed s (of_place p)) None → Attempted s p None
+  tried_more n a = ruled_out n (λ r h m e. absurd (a.all r refl m e))
 
 -- ---- both guesses
 
-module _ (s : Checks) (p : ℕ) where
-  pub none_found : Guessed s p → RuledOut s p → RuledOut s (lowest_of s) → Unexplained s
+module _ (s : Checks) (p : Option ℕ) where
+  pub none_found : Guessed s p → ((q : ℕ) → p ≡ Some q → RuledOut s q) → RuledOut s (lowest_of s) → Unexplained s
   none_found g x y = record {
     alone = λ q h e. (fails q (g.alone q h e)).alone h e;
     paired = λ q r h m ne e. go q r h m ne e (g.paired q r h m ne e);
   }
     where
       fails : (q : ℕ) → Among s p q → RuledOut s q
-      fails q (inl e) = subst (RuledOut s) e x
+      fails q (inl e) = x q e
       fails q (inr e) = subst (RuledOut s) e y
 
       go : (q r : ℕ) → q < 608 → r < 608 → q ≢ r → mixed (of_place q) (of_place r) ≡ s → Among s p q ⊎ Among s p r → ⊥

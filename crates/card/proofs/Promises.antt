@@ -1,4 +1,5 @@
 -- What specs/Promises.antt says of the card's calls holds: by the promises of an image, and by the laws of the tally. Assumes nothing.
+use Rattle.std.specs.Prelude.{Err, Ok, Result}
 use mathlib.Core.Path.{◌≡◌, sym, ap, ◌∙◌, subst}
 use mathlib.Core.Logic.{◌≢◌}
 use mathlib.Core.Bool.{true}
@@ -17,7 +18,6 @@ use Rattle.grid_code.specs.Code.{codeword, code_of_grid}
 use Rattle.page.specs.Tally.{last_pattern, LastMended, AddsUp, Again}
 use Rattle.page.proofs.Counts.{tallies}
 use Rattle.fields.specs.Fields.{first_bad}
-use Rattle.image.specs.declared.CheckAnswer.{CheckAnswer}
 use Rattle.image.specs.Card.{Card, sound, most_bytes, grids_in, blocks_in, card_of, image_of}
 use Rattle.image.specs.Answer.{means as check_means}
 use Rattle.image.specs.Calls.{Checked}
@@ -26,13 +26,9 @@ use Rattle.image.proofs.Checking.{checked_long, checked_found, Decided, card_fou
 use Rattle.image.proofs.Promises.{promised}
 use Rattle.value_scrub.specs.Tally.{tally_in as blocks_tally}
 use Rattle.card_scrub.specs.declared.Tallies.{Tallies}
-use Rattle.card_scrub.specs.declared.ScrubAnswer.{ScrubAnswer}
-use Rattle.card_scrub.specs.declared.ScrubAnswer.TheVariants.{Refused as ScrubRefused}
 use Rattle.card_scrub.specs.Answer.{means as scrub_means}
 use Rattle.card_scrub.specs.Calls.{scrubbed_part, scrubbed_card, tallies_of, Scrubbed}
-use Rattle.card_write.specs.declared.WriteAnswer.{WriteAnswer}
 use Rattle.card_write.specs.Answer.{means as write_means}
-use Rattle.card_write.specs.declared.WriteAnswer.TheVariants.{Done, Refused}
 use Rattle.card_write.specs.Calls.{card_on, card_with, size_written, lengths_allowed, none_erased, Wrote}
 use Rattle.card_write.proofs.Writes as write
 use Rattle.card_write.proofs.Writes.{no_image, image_written, same, not_allowed, bad_byte, one_erased, no_room, all_well, each_stored, all_stored, erased_there}
@@ -41,12 +37,14 @@ use Rattle.card_read.proofs.Readings as read
 use Rattle.card.specs.Promises.{ScrubPromises, Switched, AllStored, WritePromises, OneOutcome}
 use Rattle.card.proofs.Again.{block_laws, same_frame, second, still_proper, same_length, twice}
 use Rattle.card.proofs.Switches.{put_right, none_switched, no_flips, length_on, lengths, few, found_on, read_on}
+use Rattle.image.specs.declared.Counts.{Counts}
+use Rattle.refusals.specs.declared.Refusal.{Refusal}
 
 -- ---- scrub
 
-module _ {s exit : List ℕ} {r : ScrubAnswer} (h : Scrubbed s r exit) where
+module _ {s exit : List ℕ} {r : Result Tallies Refusal} (h : Scrubbed s r exit) where
   found : (c : Card) → length s ≤ most_bytes → card_of s ≡ sound c → (scrub_means r ≡ gives (tallies_of c.parts)) × (exit ≡ image_of (scrubbed_card c))
-  found c l e = (ap scrub_means (h.answer ∙ checked_found s ScrubRefused _ l e), h.after ∙ checked_found s (λ why. s) _ l e)
+  found c l e = (ap scrub_means (h.answer ∙ checked_found s Err _ l e), h.after ∙ checked_found s (λ why. s) _ l e)
 
   not_scrubbed : ((t : Tallies) → scrub_means r ≢ gives t) → exit ≡ s
   not_scrubbed n = go (decided s)
@@ -63,13 +61,13 @@ record AfterScrub (s exit : List ℕ) (t : Tallies) : Type 0 where
   pub tally : t ≡ tallies_of card.parts
   pub after : exit ≡ image_of (scrubbed_card card)
 
-module _ (s exit : List ℕ) (r : ScrubAnswer) (t : Tallies) (h : Scrubbed s r exit) (m : scrub_means r ≡ gives t) where
+module _ (s exit : List ℕ) (r : Result Tallies Refusal) (t : Tallies) (h : Scrubbed s r exit) (m : scrub_means r ≡ gives t) where
   after_scrub : AfterScrub s exit t
   after_scrub = go (decided s)
     where
       go : Decided s → AfterScrub s exit t
       go (card_found c l e) = let (a, b) = found h c l e in record { card = c; few = l; is = e; tally = cc; after = b }
-      go (no_card why f) = nothing_given why (sym (ap scrub_means (h.answer ∙ f ScrubAnswer ScrubRefused _)) ∙ m)
+      go (no_card why f) = nothing_given why (sym (ap scrub_means (h.answer ∙ f (Result Tallies Refusal) Err _)) ∙ m)
 
   sums : AddsUp t.grids × codes.AddsUp (blocks_tally t.blocks)
   sums =
@@ -101,7 +99,7 @@ module _ (s exit : List ℕ) (r : ScrubAnswer) (t : Tallies) (h : Scrubbed s r e
     long_now : length exit ≡ length s
     long_now = ap length after_scrub.after ∙ same_length card ∙ ap length shape.1
 
-    again : (q : ScrubAnswer) (last : List ℕ) → Scrubbed exit q last
+    again : (q : Result Tallies Refusal) (last : List ℕ) → Scrubbed exit q last
         → (u : Tallies) × (scrub_means q ≡ gives u) × Again t.grids u.grids
         × codes.Again (blocks_tally t.blocks) (blocks_tally u.blocks) × (last ≡ exit)
     again q last k =
@@ -114,8 +112,8 @@ module _ (s exit : List ℕ) (r : ScrubAnswer) (t : Tallies) (h : Scrubbed s r e
 
 pub scrub_promised : ScrubPromises
 scrub_promised = record {
-  long = λ s exit r l h. ap scrub_means (h.answer ∙ checked_long s ScrubRefused _ l);
-  broken_image = λ s exit at r l e h. ap scrub_means (h.answer ∙ checked_found s ScrubRefused _ l e);
+  long = λ s exit r l h. ap scrub_means (h.answer ∙ checked_long s Err _ l);
+  broken_image = λ s exit at r l e h. ap scrub_means (h.answer ∙ checked_found s Err _ l e);
   refused = λ s exit r h n. not_scrubbed h n;
   done = λ s exit c r l e h. found h c l e;
   sums = sums;
@@ -129,7 +127,7 @@ scrub_promised = record {
 
 -- ---- write
 
-not_written : {title ns image exit : List ℕ} {r : WriteAnswer} → Wrote title ns image r exit → ((k : ℕ) → write_means r ≢ gives k) → exit ≡ image
+not_written : {title ns image exit : List ℕ} {r : Result ℕ Refusal} → Wrote title ns image r exit → ((k : ℕ) → write_means r ≢ gives k) → exit ≡ image
 not_written {title} {ns} {image} {exit} h n = go (write.decided title ns image)
   where
     go : write.Decided title ns image → exit ≡ image
@@ -144,13 +142,13 @@ record AfterWrite (title ns image exit : List ℕ) (k : ℕ) : Type 0 where
   pub long : k ≡ size_written title ns
   pub after : exit ≡ laid (image_of (card_with title ns)) image
 
-module _ (title ns image exit : List ℕ) (r : WriteAnswer) (k : ℕ) (h : Wrote title ns image r exit) (m : write_means r ≡ gives k) where
+module _ (title ns image exit : List ℕ) (r : Result ℕ Refusal) (k : ℕ) (h : Wrote title ns image r exit) (m : write_means r ≡ gives k) where
   after_write : AfterWrite title ns image exit k
   after_write = go (write.decided title ns image)
     where
       go : write.Decided title ns image → AfterWrite title ns image exit k
       go (no_image why d) = nothing_given why (sym (ap write_means (same h d).0) ∙ m)
-      go (image_written a g n l d) = let (p, q) = same h d in record { allowed = a; good = g; stored = n; long = cc (ap write_means p); after = q }
+      go (image_written a g n l d) = let (p, q) = same h d in record { allowed = a; good = g; stored = n; long = cc p; after = q }
 
   size_is : length (image_of (card_with title ns)) ≡ k
   size_is = let l = length-map ns codeword in omega (arith, length_on title (map codeword ns), l, after_write.long)
@@ -171,7 +169,7 @@ module _ (title ns image exit : List ℕ) (r : WriteAnswer) (k : ℕ) (h : Wrote
     is_sound : card_of (take k exit) ≡ sound (card_with title ns)
     is_sound = ap card_of image_is ∙ found_on title ns after_write.allowed after_write.good (map codeword ns) none
 
-    checks : (q : CheckAnswer) → Checked (take k exit) q → check_means q ≡ gives (record { grids = length ns; blocks = 0 })
+    checks : (q : Result Counts Refusal) → Checked (take k exit) q → check_means q ≡ gives (record { grids = length ns; blocks = 0 })
     checks q c =
         let l = lengths title ns after_write.allowed in
         let m : length (map codeword ns ++ []) ≡ length ns = ap length (append-nil (map codeword ns)) ∙ length-map ns codeword in
@@ -180,7 +178,7 @@ module _ (title ns image exit : List ℕ) (r : WriteAnswer) (k : ℕ) (h : Wrote
         ∙ ap (λ (n : ℕ). gives (record { grids = n; blocks = 0 })) m
 
     -- with lamps switched
-    restored : (ws last : List ℕ) (q : ScrubAnswer) → Switched ns ws → Scrubbed (image_of (card_on title ws)) q last
+    restored : (ws last : List ℕ) (q : Result Tallies Refusal) → Switched ns ws → Scrubbed (image_of (card_on title ws)) q last
         → (scrub_means q ≡ gives (tallies_of (card_on title ws).parts)) × (last ≡ take k exit)
     restored ws last q s d =
         let (a, e) = found d (card_on title ws) (few title ns after_write.allowed after_write.good ws s)
@@ -191,15 +189,15 @@ pub write_promised : WritePromises
 write_promised = record {
   refused = λ title ns image exit r h n. not_written h n;
   lengths = λ title ns image exit r h e.
-      ap write_means (h.answer ∙ sym (not_allowed title ns (length image) Refused (Done (size_written title ns)) e));
+      ap write_means (h.answer ∙ sym (not_allowed title ns (length image) Err (Ok (size_written title ns)) e));
   bad_byte = λ title ns image exit r h e n.
-      ap write_means (h.answer ∙ sym (bad_byte title ns (length image) Refused (Done (size_written title ns)) e n));
+      ap write_means (h.answer ∙ sym (bad_byte title ns (length image) Err (Ok (size_written title ns)) e n));
   erased_number = λ title ns image exit r i h e n l z.
-      ap write_means (h.answer ∙ sym (one_erased title ns (length image) Refused (Done (size_written title ns)) e n (erased_there ns i l z)));
+      ap write_means (h.answer ∙ sym (one_erased title ns (length image) Err (Ok (size_written title ns)) e n (erased_there ns i l z)));
   short = λ title ns image exit r h e n s l.
-      ap write_means (h.answer ∙ sym (no_room title ns (length image) Refused (Done (size_written title ns)) e n (all_stored ns s) l));
+      ap write_means (h.answer ∙ sym (no_room title ns (length image) Err (Ok (size_written title ns)) e n (all_stored ns s) l));
   accepted = λ title ns image exit r h e n s l.
-      ap write_means (h.answer ∙ sym (all_well title ns (length image) Refused (Done (size_written title ns)) e n (all_stored ns s) l));
+      ap write_means (h.answer ∙ sym (all_well title ns (length image) Err (Ok (size_written title ns)) e n (all_stored ns s) l));
   written = λ title ns image exit r k h m.
       ((after_write title ns image exit r k h m).long, image_is title ns image exit r k h m, behind_is title ns image exit r k h m);
   is_sound = λ title ns image exit r k small h m. is_sound title ns image exit r k h m small;

@@ -1,4 +1,5 @@
 -- What specs/Promises.antt says of reading back holds. Assumes nothing.
+use Rattle.std.specs.Prelude.{Err, Result}
 use mathlib.Core.Path.{◌≡◌, refl, ap, ◌∙◌}
 use mathlib.Core.Logic.{◌≢◌}
 use mathlib.Core.Bool.{Bool, true, false}
@@ -12,14 +13,14 @@ use Rattle.grid_code.proofs.Promises.{promised}
 use Rattle.image.specs.Card.{Card, sound, most_bytes, card_of}
 use Rattle.image.proofs.Checking.{checked_long, checked_found, Decided, card_found, no_card, decided}
 use Rattle.value_read.specs.Shown.{data_shown, flips_shown, data_of_grid}
-use Rattle.card_read.specs.declared.ReadAnswer.{ReadAnswer}
-use Rattle.card_read.specs.declared.ReadAnswer.TheVariants.{Refused}
-use Rattle.card_read.specs.Answer.{Lengths, means}
+use Rattle.card_read.specs.declared.Lengths.{Lengths}
+use Rattle.card_read.specs.Answer.{means}
 use Rattle.card_read.specs.Calls.{room_for, Read}
 use Rattle.card_read.proofs.Readings.{same, not_read, no_room, all_read}
 use Rattle.card.specs.Promises.{ReadPromises}
+use Rattle.refusals.specs.declared.Refusal.{Refusal}
 
-module _ (image title ns flips title' ns' flips' : List ℕ) (r : ReadAnswer) (h : Read image title ns flips r title' ns' flips') where
+module _ (image title ns flips title' ns' flips' : List ℕ) (r : Result Lengths Refusal) (h : Read image title ns flips r title' ns' flips') where
   refused : ((v : Lengths) → means r ≢ gives v) → (title' ≡ title) × (ns' ≡ ns) × (flips' ≡ flips)
   refused n = go (decided image)
     where
@@ -50,8 +51,8 @@ read_promised = record {
   refused = refused;
   blank_shown = λ w n. shown_blank (grid_verdict w) n;
   blank_only = blank_only;
-  long = λ image title ns flips title' ns' flips' r l h. ap means (h.answer ∙ checked_long image Refused _ l);
-  broken_image = λ image title ns flips title' ns' flips' at r l e h. ap means (h.answer ∙ checked_found image Refused _ l e);
+  long = λ image title ns flips title' ns' flips' r l h. ap means (h.answer ∙ checked_long image Err _ l);
+  broken_image = λ image title ns flips title' ns' flips' at r l e h. ap means (h.answer ∙ checked_found image Err _ l e);
   short = λ image title ns flips title' ns' flips' c r l e h n. ap means (same h (no_room image title ns flips c l e n)).0;
   accepted = λ image title ns flips title' ns' flips' c r l e h n.
       let (a, t, m, k) = same h (all_read image title ns flips c l e n) in (ap means a, t, m, k);

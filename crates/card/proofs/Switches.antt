@@ -1,5 +1,6 @@
 -- The card of a title and of grids with at most seven lamps switched in each: it can stand in an image, reads as what was written, and is
 -- put right as it was written. Assumes nothing.
+use Rattle.std.specs.Prelude.{Result}
 use mathlib.Core.Path.{◌≡◌, sym, ap, ◌∙◌}
 use mathlib.Core.Bool.{true, and-eq-true_iff}
 use mathlib.Core.List.{List, [], ◌++◌, map, append-nil}
@@ -31,12 +32,13 @@ use Rattle.image.specs.Promises.{Proper}
 use Rattle.image.proofs.Promises as image
 use Rattle.card_write.specs.Calls.{card_on, lengths_allowed}
 use Rattle.value_read.specs.Shown.{data_shown, flips_shown, data_of_grid, flips_of_grid, data_of_grids, flips_of_grids}
-use Rattle.card_read.specs.declared.ReadAnswer.{ReadAnswer}
 use Rattle.card_read.specs.Answer.{means}
 use Rattle.card_read.specs.Calls.{room_for, Read}
 use Rattle.card_read.proofs.Readings.{roomy, same, all_read}
 use Rattle.card.specs.Promises.{Switched, AllStored}
 use Rattle.card.proofs.Again.{grids_long, card_long}
+use Rattle.card_read.specs.declared.Lengths.{Lengths}
+use Rattle.refusals.specs.declared.Refusal.{Refusal}
 
 -- ---- grid by grid
 
@@ -133,7 +135,7 @@ module _ (title ns : List ℕ) (allowed : lengths_allowed title ns ≡ true) whe
       room : room_for (card_on title ws) title₀ ns₀ flips₀ ≡ true
       room = roomy title₀ ns₀ flips₀ (card_on title ws) l (omega (arith, m, many)) (omega (arith, k, many))
 
-      pub read_on : (r : ReadAnswer) (title₁ ns₁ flips₁ : List ℕ) → Below 16 ns → AllStored ns
+      pub read_on : (r : Result Lengths Refusal) (title₁ ns₁ flips₁ : List ℕ) → Below 16 ns → AllStored ns
           → Read (image_of (card_on title ws)) title₀ ns₀ flips₀ r title₁ ns₁ flips₁
           → (means r ≡ gives (record { title = length title; grids = length ns })) × (title₁ ≡ laid title title₀) × (ns₁ ≡ laid ns ns₀)
           × (flips₁ ≡ laid (flips_of_grids ws) flips₀)

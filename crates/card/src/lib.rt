@@ -2,8 +2,8 @@
 // what is proved of the three together.
 #![tactic(auto)]
 
-pub use card_read::{ReadAnswer, read};
-pub use card_scrub::{ScrubAnswer, Tallies, scrub};
-pub use card_write::{WriteAnswer, write};
-pub use refusals::{Place, Refusal};
+pub use card_read::{Lengths, read};
+pub use card_scrub::{Tallies, scrub};
+pub use card_write::write;
+pub use refusals::Refusal;
 pub use value_scrub::Blocks;

@@ -1,4 +1,5 @@
 -- The grids of a field read back, and those of the fields behind it; and the order of the refusals of reading back. Assumes nothing.
+use Rattle.std.specs.Prelude.{Err, Ok, Result, Some}
 use mathlib.Core.Path.{◌≡◌, sym, ap, ap₂, ◌∙◌}
 use mathlib.Core.Bool.{Bool, true, false}
 use mathlib.Core.List.{List, ◌++◌, map, map-append}
@@ -19,11 +20,10 @@ use Rattle.image.proofs.Walks.{Front}
 use Rattle.image.proofs.Checking.{checked_found}
 use Rattle.value_read.specs.Shown.{data_of_grids, flips_of_grids}
 use Rattle.values.specs.Steps.{grids_of}
-use Rattle.card_read.specs.declared.ReadAnswer.{ReadAnswer}
-use Rattle.card_read.specs.declared.ReadAnswer.TheVariants.{Done, Refused}
 use Rattle.card_read.specs.Calls.{room_for, read_as, Read}
+use Rattle.card_read.specs.declared.Lengths.{Lengths}
 
-module _ (s : List ℕ) (ps : List Part) (n left next : ℕ) (f : field_of s ≡ Grids n)
+module _ (s : List ℕ) (ps : List Part) (n left next : ℕ) (f : field_of s ≡ Some (Grids n))
     (front : Front ps (grids_at n (value s)) left next (drop (3 + n) s)) where
   ws : List ℕ
   ws = words_in 8 (n / 8) (value s)
@@ -55,20 +55,14 @@ module _ (title numbers flips : List ℕ) (c : Card) where
   pub short_title : length title < length c.title → room_for c title numbers flips ≡ false
   short_title l = rw (lt-leb (length c.title) (length title) l)
 
-  pub short_numbers : length c.title ≤ length title → length numbers < many → room_for c title numbers flips ≡ false
-  short_numbers l m = rw (le-leb (length c.title) (length title) l, lt-leb many (length numbers) m)
-
   module _ (l : length c.title ≤ length title) (m : many ≤ length numbers) where
-    pub short_flips : length flips < many → room_for c title numbers flips ≡ false
-    short_flips k = rw (le-leb (length c.title) (length title) l, le-leb many (length numbers) m, lt-leb many (length flips) k)
-
     pub roomy : many ≤ length flips → room_for c title numbers flips ≡ true
     roomy k = rw (le-leb (length c.title) (length title) l, le-leb many (length numbers) m, le-leb many (length flips) k)
 
 -- ---- the order of the refusals
 
 -- no second outcome
-pub same : {image title numbers flips t₁ n₁ f₁ t₂ n₂ f₂ : List ℕ} {r q : ReadAnswer} → Read image title numbers flips r t₁ n₁ f₁
+pub same : {image title numbers flips t₁ n₁ f₁ t₂ n₂ f₂ : List ℕ} {r q : Result Lengths Refusal} → Read image title numbers flips r t₁ n₁ f₁
     → Read image title numbers flips q t₂ n₂ f₂ → (r ≡ q) × (t₁ ≡ t₂) × (n₁ ≡ n₂) × (f₁ ≡ f₂)
 same x y = (
   x.answer ∙ sym y.answer,
@@ -80,9 +74,9 @@ same x y = (
 module _ (image title numbers flips : List ℕ) where
   pub not_read : (why : Refusal)
       → ((A : Type 0) (refused : Refusal → A) (whole : Card → A) → read_as image title numbers flips refused whole ≡ refused why)
-      → Read image title numbers flips (Refused why) title numbers flips
+      → Read image title numbers flips (Err why) title numbers flips
   not_read why h = record {
-    answer = sym (h ReadAnswer Refused _);
+    answer = sym (h (Result Lengths Refusal) Err _);
     title_after = sym (h (List ℕ) (λ why. title) _);
     numbers_after = sym (h (List ℕ) (λ why. numbers) _);
     flips_after = sym (h (List ℕ) (λ why. flips) _);
@@ -94,14 +88,14 @@ module _ (image title numbers flips : List ℕ) where
         → read_as image title numbers flips refused whole ≡ choose b (whole c) (refused Room)
     by_room refused whole n = checked_found image refused _ l e ∙ ap (λ (b : Bool). choose b (whole c) (refused Room)) n
 
-    pub no_room : room_for c title numbers flips ≡ false → Read image title numbers flips (Refused Room) title numbers flips
+    pub no_room : room_for c title numbers flips ≡ false → Read image title numbers flips (Err Room) title numbers flips
     no_room n = not_read Room (λ A refused whole. by_room refused whole n)
 
     pub all_read : room_for c title numbers flips ≡ true
-        → Read image title numbers flips (Done (length c.title) (length (grids_in c.parts))) (laid c.title title)
+        → Read image title numbers flips (Ok (record { title = length c.title; grids = length (grids_in c.parts) })) (laid c.title title)
         (laid (data_of_grids (grids_in c.parts)) numbers) (laid (flips_of_grids (grids_in c.parts)) flips)
     all_read n = record {
-      answer = sym (by_room Refused _ n);
+      answer = sym (by_room Err _ n);
       title_after = sym (by_room (λ why. title) _ n);
       numbers_after = sym (by_room (λ why. numbers) _ n);
       flips_after = sym (by_room (λ why. flips) _ n);

@@ -1,4 +1,5 @@
 -- Reading back field after field: a grids field, a block, and one turn of the loop. With what is left read, all is. Assumes nothing.
+use Rattle.std.specs.Prelude.{Some}
 use mathlib.Core.Path.{◌≡◌, sym, ap, ◌∙◌, subst}
 use mathlib.Core.List.{List, ◌++◌, append_assoc}
 use Prim.Native.Nat.{ℕ, ◌+◌, ◌-◌, ◌/◌, ◌≤◌}
@@ -20,7 +21,7 @@ use Rattle.card_read.proofs.Readings.{grids_many, read_on}
 
 -- ---- a grids field, and a block
 
-module _ (s part numbers flips numbers' flips' : List ℕ) (n : ℕ) (r : ReadsFields s numbers flips) (f : field_of s ≡ Grids n) (is : part ≡ value s)
+module _ (s part numbers flips numbers' flips' : List ℕ) (n : ℕ) (r : ReadsFields s numbers flips) (f : field_of s ≡ Some (Grids n)) (is : part ≡ value s)
     (read : ReadValue part numbers flips numbers' flips') where
   room : (n / 8 ≤ length numbers) × (n / 8 ≤ length flips)
   room =
@@ -60,7 +61,7 @@ module _ (s part numbers flips numbers' flips' : List ℕ) (n : ℕ) (r : ReadsF
         };
       }
 
-pub block-passed : (s numbers flips : List ℕ) → ReadsFields s numbers flips → field_of s ≡ Block → Passed s numbers flips 79 0 numbers flips
+pub block-passed : (s numbers flips : List ℕ) → ReadsFields s numbers flips → field_of s ≡ Some Block → Passed s numbers flips 79 0 numbers flips
 block-passed s numbers flips r f = record {
   few = omega arith;
   room = (known s f).room;

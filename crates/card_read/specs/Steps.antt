@@ -1,11 +1,10 @@
 -- What the private steps of the call compute, so that their contracts can say it. No promise to a caller cites this file. Assumes nothing.
-use Rattle.std.specs.Prelude.{◌≡◌, List, ◌++◌, ℕ, ◌-◌, ◌≤◌, ◌<◌, length, take, drop}
+use Rattle.std.specs.Prelude.{◌≡◌, List, ◌++◌, ℕ, ◌-◌, ◌≤◌, ◌<◌, length, take, drop, Option, Some, None}
 use Rattle.words.specs.Bytes.{laid}
 use Rattle.image.specs.Card.{Part, sound, grids_in, walk}
 use Rattle.image.specs.Steps.{Walks}
 use Rattle.value_read.specs.Shown.{data_of_grids, flips_of_grids}
 use Rattle.card_read.specs.declared.First.{First}
-use Rattle.card_read.specs.declared.First.TheVariants.{Data, End}
 
 -- sound, with room for each grid
 pub record ReadsFields (rest numbers flips : List ℕ) : Type 0 where
@@ -30,6 +29,6 @@ pub record Passed (rest numbers flips : List ℕ) (size grids : ℕ) (numbers' f
       → ReadsGrids rest numbers flips (take grids numbers' ++ n) (take grids flips' ++ f)
 
 -- the field in front: a data field, or the end, and then nothing is left
-abbrev pub ReadFirst : List ℕ → List ℕ → List ℕ → First → List ℕ → List ℕ → Type 0
-ReadFirst rest numbers flips (Data size grids) numbers' flips' = Passed rest numbers flips size grids numbers' flips'
-ReadFirst rest numbers flips End numbers' flips' = ReadsGrids rest numbers flips numbers' flips'
+abbrev pub ReadFirst : List ℕ → List ℕ → List ℕ → Option First → List ℕ → List ℕ → Type 0
+ReadFirst rest numbers flips (Some first) numbers' flips' = Passed rest numbers flips first.size first.grids numbers' flips'
+ReadFirst rest numbers flips None numbers' flips' = ReadsGrids rest numbers flips numbers' flips'

@@ -10,86 +10,80 @@ ghost use Rattle.card_read.specs.Calls.{Read};
 ghost use Rattle.card_read.specs.Steps.{ReadsGrids, ReadsFields, ReadFirst};
 
 use fields::{BLOCK, Field, HEAD};
-use image::CheckAnswer;
 use refusals::Refusal;
 
-// The title's length and the number of grids, or a refusal.
-#[derive(Drop)]
-pub enum ReadAnswer {
-    Done { title: usize, grids: usize },
-    Refused(Refusal),
+// The title's length and the number of grids.
+#[derive(Clone, Copy, Debug, PartialEq, Eq)]
+pub struct Lengths {
+    pub title: usize,
+    pub grids: usize,
 }
 
-// What stands at the front of some bytes: a data field, with its bytes, head and value, and its grids; or the end.
+// A data field: its bytes, head and value, and its grids. Beside card_scrub's `First`: one type for both would stand public in a crate
+// below, for two private uses.
 #[derive(Drop)]
-enum First {
-    Data { size: usize, grids: usize },
-    End,
+struct First {
+    size: usize,
+    grids: usize,
 }
 
-// The field at the front, and its grids read to the front of two slices.
-fn read_first(rest: &[u8], numbers: &mut [u16], flips: &mut [u8]) -> First
+// The field at the front, and its grids read to the front of two slices, as the caller lends them; or the end, and then there is none.
+fn read_first(rest: &[u8], numbers: &mut [u16], flips: &mut [u8]) -> Option<First>
     requires { ReadsFields rest.now numbers.old flips.old }
     ensures { ReadFirst rest.now numbers.old flips.old result numbers.new flips.new }
 {
-    match fields::front(rest) {
+    match fields::front(rest)? {
         Field::Grids(n) => {
             let size = HEAD + n;
             value_read::grids(&rest[HEAD..size], numbers, flips);
-            First::Data { size, grids: n / 8 }
+            Some(First { size, grids: n / 8 })
         }
-        Field::Block => First::Data {
+        Field::Block => Some(First {
             size: HEAD + BLOCK,
             grids: 0,
-        },
-        _ => First::End,
+        }),
+        Field::Title(_) | Field::End => None,
     }
 }
 
-// The grids of the data fields at the front of some bytes, up to the end field.
+// The grids of the data fields at the front of some bytes, up to the end field. No `for`: only the step knows how far a field goes.
 fn read_fields(rest: &[u8], numbers: &mut [u16], flips: &mut [u8])
     requires { ReadsFields rest.now numbers.old flips.old }
     ensures { ReadsGrids rest.now numbers.old flips.old numbers.new flips.new }
 {
     let mut at: usize = 0;
     let mut k: usize = 0;
-    loop {
-        match read_first(&rest[at..], &mut numbers[k..], &mut flips[k..]) {
-            First::Data { size, grids } => {
-                at = at + size;
-                k = k + grids;
-            }
-            First::End => {
-                return;
-            }
-        }
+    while let Some(first) = read_first(&rest[at..], &mut numbers[k..], &mut flips[k..]) {
+        at += first.size;
+        k += first.grids;
     }
 }
 
-// Reads a sound image back: the title, and each grid's data and flips.
-pub fn read(image: &[u8], title: &mut [u8], numbers: &mut [u16], flips: &mut [u8]) -> ReadAnswer
+// Reads a sound image back: the title, and each grid's data and flips. `numbers` and `flips` are two slices, since C lends them so.
+pub fn read(
+    image: &[u8],
+    title: &mut [u8],
+    numbers: &mut [u16],
+    flips: &mut [u8],
+) -> Result<Lengths, Refusal>
     ensures { Read image.now title.old numbers.old flips.old result title.new numbers.new flips.new }
 {
-    match image::check(image) {
-        CheckAnswer::Refused(why) => ReadAnswer::Refused(why),
-        CheckAnswer::Done { grids, blocks: _ } => {
-            let name = image::title(image);
-            if title.len() < name.len() {
-                return ReadAnswer::Refused(Refusal::Room);
-            }
-            if numbers.len() < grids {
-                return ReadAnswer::Refused(Refusal::Room);
-            }
-            if flips.len() < grids {
-                return ReadAnswer::Refused(Refusal::Room);
-            }
-            values::copy(name, title);
-            let end = HEAD + name.len();
-            read_fields(&image[end..], numbers, flips);
-            ReadAnswer::Done {
-                title: name.len(),
-                grids,
-            }
-        }
+    let grids = image::check(image)?.grids;
+    let name = image::title(image);
+    if title.len() < name.len() {
+        return Err(Refusal::Room);
     }
+    if numbers.len() < grids {
+        return Err(Refusal::Room);
+    }
+    if flips.len() < grids {
+        return Err(Refusal::Room);
+    }
+    values::copy(name, title);
+    let end = HEAD + name.len();
+    read_fields(&image[end..], numbers, flips);
+    Ok(Lengths {
+        title: name.len(),
+        grids,
+    })
 }

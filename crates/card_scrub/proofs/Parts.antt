@@ -1,4 +1,5 @@
 -- A data field scrubbed, and the fields behind it: what is counted, and what stands there afterwards. Assumes nothing.
+use Rattle.std.specs.Prelude.{Some}
 use Rattle.std.proofs.Common.{◌≡◌, ℕ, ◌+◌, ◌-◌, ◌*◌, ◌/◌, ◌%◌, ◌^◌, ◌≤◌, List, [], ◌∷◌, ◌++◌, map, length, take, drop, sym, refl, ap, ◌∙◌, ap₂, append_assoc, append-nil, mod-eq_of_lt, arith, lit<, length-append, length-drop, drop_of_length-le, length-take-le, drop-drop, take_at, drop_at}
 use lib.ListN.{length-map}
 use Rattle.words.specs.Digits.{digits, joined, Below}
@@ -14,7 +15,6 @@ use Rattle.page.specs.declared.Tally.{Tally}
 use Rattle.page.specs.Tally.{last_from, grid_tally}
 use Rattle.page.specs.Calls.{NoGrids}
 use Rattle.page.specs.Steps.{later, plus}
-use Rattle.page.proofs.Last.{later_again}
 use Rattle.page.proofs.Counts.{tally_two, small_sum}
 use Rattle.block_code.specs.Code.{code_of_block}
 use Rattle.block_code.proofs.Promises.{promised}
@@ -160,7 +160,7 @@ module _ (s v : List ℕ) (n m : ℕ) (p : Part) (r : Tallies) (w : Walks s) (ro
 
 -- ---- a grids field, and a block
 
-module _ (s v : List ℕ) (n m : ℕ) (r : Tally) (none : Blocks) (w : Walks s) (b : Below 8 s) (f : field_of s ≡ Grids n) (is : m ≡ n)
+module _ (s v : List ℕ) (n m : ℕ) (r : Tally) (none : Blocks) (w : Walks s) (b : Below 8 s) (f : field_of s ≡ Some (Grids n)) (is : m ≡ n)
     (long : length v ≡ n) (here : ScrubbedGrids (take m (drop 3 s)) r v) (zero-blocks : NoBlocks none) where
   ws : List ℕ
   ws = words_in 8 (n / 8) (value s)
@@ -188,7 +188,7 @@ module _ (s v : List ℕ) (n m : ℕ) (r : Tally) (none : Blocks) (w : Walks s) 
       (here.after ∙ ap (λ l. bytes_of 8 (map (scrubbed code_of_grid) l)) words_are))
       (λ left at ps found. grids_front at s ps left n f found)
 
-module _ (s v : List ℕ) (r : Blocks) (none : Tally) (w : Walks s) (b : Below 8 s) (f : field_of s ≡ Block)
+module _ (s v : List ℕ) (r : Blocks) (none : Tally) (w : Walks s) (b : Below 8 s) (f : field_of s ≡ Some Block)
     (long : length v ≡ 76) (here : ScrubbedBlock (take 76 (drop 3 s)) r v) (zero-grids : NoGrids none) where
   pub block-passed : Passed s 79 (record { grids = none; blocks = r }) (take 3 s ++ (v ++ drop 76 (drop 3 s)))
   unfolding part_bytes sum_by last_from
@@ -205,35 +205,6 @@ module _ (s v : List ℕ) (r : Blocks) (none : Tally) (w : Walks s) (b : Below 8
       (λ left at ps found. block_front at s ps left f found)
 
 -- ---- sums of sums
-
-again : (a b c : ℕ) → (a + (b + c) % 2 ^ 32) % 2 ^ 32 ≡ ((a + b) % 2 ^ 32 + c) % 2 ^ 32
-again a b c = omega arith
-
-wrapped_again : (a b c : Counted) → wrapped (codes.plus a (wrapped (codes.plus b c))) ≡ wrapped (codes.plus (wrapped (codes.plus a b)) c)
-wrapped_again a b c = λ i. record {
-  words = again a.words b.words c.words i;
-  clean = again a.clean b.clean c.clean i;
-  mended = again a.mended b.mended c.mended i;
-  lost = again a.lost b.lost c.lost i;
-  flips = again a.flips b.flips c.flips i;
-}
-
-added_again : (a b c : Tally) → added a (added b c) ≡ added (added a b) c
-added_again a b c = λ i. record {
-  grids = again a.grids b.grids c.grids i;
-  clean = again a.clean b.clean c.clean i;
-  blank = again a.blank b.blank c.blank i;
-  mended = again a.mended b.mended c.mended i;
-  lost = again a.lost b.lost c.lost i;
-  flips = again a.flips b.flips c.flips i;
-  pattern = later_again a.pattern b.pattern c.pattern i;
-}
-
-pub summed_again : (a b c : Tallies) → summed a (summed b c) ≡ summed (summed a b) c
-summed_again a b c = λ i. record {
-  grids = added_again a.grids b.grids c.grids i;
-  blocks = of_blocks (wrapped_again (blocks_tally a.blocks) (blocks_tally b.blocks) (blocks_tally c.blocks) i);
-}
 
 nothing_more : (a b : ℕ) → ((a + b) % 2 ^ 32 + 0) % 2 ^ 32 ≡ (a + b) % 2 ^ 32
 nothing_more a b = omega arith
@@ -265,6 +236,18 @@ pub summed_none : (a b : Tallies) → summed (summed a b) (tallies_of []) ≡ su
 summed_none a b = λ i. record {
   grids = added_once a.grids b.grids i;
   blocks = of_blocks (wrapped_once (blocks_tally a.blocks) (blocks_tally b.blocks) i);
+}
+
+-- tallies of zeros, as a derive says it
+pub no_fields : (t : Tallies)
+    → ((t.grids.grids ≡ 0) × ((t.grids.clean ≡ 0) × ((t.grids.blank ≡ 0) × ((t.grids.mended ≡ 0) × ((t.grids.lost ≡ 0)
+    × ((t.grids.flips ≡ 0) × (t.grids.pattern ≡ 0)))))))
+    × ((t.blocks.blocks ≡ 0) × ((t.blocks.clean ≡ 0) × ((t.blocks.mended ≡ 0) × ((t.blocks.lost ≡ 0) × (t.blocks.flips ≡ 0)))))
+    → t ≡ tallies_of []
+unfolding sum_by last_from
+no_fields t ((g, (c, (k, (m, (l, (f, p)))))), (n, (d, (r, (o, s))))) = λ i. record {
+  grids = record { grids = g i; clean = c i; blank = k i; mended = m i; lost = l i; flips = f i; pattern = p i };
+  blocks = record { blocks = n i; clean = d i; mended = r i; lost = o i; flips = s i };
 }
 
 pub none_none : summed (tallies_of []) (tallies_of []) ≡ tallies_of []

@@ -6,7 +6,8 @@ use Rattle.image.proofs.Walks.{bounded}
 use Rattle.card_scrub.specs.declared.Tallies.{Tallies}
 use Rattle.card_scrub.specs.Calls.{tallies_of}
 use Rattle.card_scrub.specs.Steps.{summed, ScrubbedFields, Passed}
-use Rattle.card_scrub.proofs.Parts.{none_more, summed_again}
+use Rattle.card_scrub.specs.Sums.{summed_again}
+use Rattle.card_scrub.proofs.Parts.{none_more}
 
 -- what is left, scrubbed, makes the whole
 abbrev pub Completes : List ℕ → Tallies → ℕ → List ℕ → Type 0

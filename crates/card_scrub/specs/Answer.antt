@@ -1,9 +1,8 @@
 -- What the answer of a scrub says: values, or a refusal (docs/FORMAT.md, The refusals). Assumes nothing.
-use Rattle.refusals.specs.Reply.{Reply, gives, refusal}
+use Rattle.std.specs.Prelude.{Result}
+use Rattle.refusals.specs.Reply.{Reply, reply}
 use Rattle.card_scrub.specs.declared.Tallies.{Tallies}
-use Rattle.card_scrub.specs.declared.ScrubAnswer.{ScrubAnswer}
-use Rattle.card_scrub.specs.declared.ScrubAnswer.TheVariants.{Done, Refused}
+use Rattle.refusals.specs.declared.Refusal.{Refusal}
 
-abbrev pub means : ScrubAnswer → Reply Tallies
-means (Done t) = gives t
-means (Refused why) = refusal why
+abbrev pub means : (Result Tallies Refusal) → Reply Tallies
+means r = reply r

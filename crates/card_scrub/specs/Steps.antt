@@ -1,5 +1,5 @@
 -- What the private steps of the call compute, so that their contracts can say it. No promise to a caller cites this file. Assumes nothing.
-use Rattle.std.specs.Prelude.{◌≡◌, ℕ, ◌%◌, ◌^◌, ◌<◌, ◌≤◌, List, [], ◌++◌, map, length, take, drop}
+use Rattle.std.specs.Prelude.{◌≡◌, ℕ, ◌%◌, ◌^◌, ◌<◌, ◌≤◌, List, [], ◌++◌, map, length, take, drop, Option, Some, None}
 use Rattle.codes.specs.Tally.{Tally as Counted}
 use Rattle.codes.specs.Steps.{plus}
 use Rattle.image.specs.Card.{Part, sound, walk, head, parts_bytes}
@@ -8,7 +8,6 @@ use Rattle.value_scrub.specs.Tally.{of_blocks, tally_in}
 use Rattle.value_scrub.specs.Steps.{added}
 use Rattle.card_scrub.specs.declared.Tallies.{Tallies}
 use Rattle.card_scrub.specs.declared.First.{First}
-use Rattle.card_scrub.specs.declared.First.TheVariants.{Data, End}
 use Rattle.card_scrub.specs.Calls.{scrubbed_part, tallies_of}
 
 -- a tally of blocks in numbers of 32 bits, which start again from 0
@@ -44,6 +43,6 @@ pub record Passed (rest : List ℕ) (size : ℕ) (here : Tallies) (exit : List �
       → ScrubbedFields rest (summed here there) (take size exit ++ e)
 
 -- the field in front: a data field, or the end, and then nothing is left
-abbrev pub ScrubbedFirst : List ℕ → First → List ℕ → Type 0
-ScrubbedFirst rest (Data size here) exit = Passed rest size here exit
-ScrubbedFirst rest End exit = ScrubbedFields rest (tallies_of []) exit
+abbrev pub ScrubbedFirst : List ℕ → Option First → List ℕ → Type 0
+ScrubbedFirst rest (Some first) exit = Passed rest first.size first.here exit
+ScrubbedFirst rest None exit = ScrubbedFields rest (tallies_of []) exit

@@ -8,142 +8,96 @@
 #![tactic(auto)]
 
 ghost use Rattle.std.specs.Prelude.{◌≡◌, []};
-ghost use Rattle.codes.specs.Steps.{plus};
 ghost use Rattle.image.specs.Steps.{Walks};
-ghost use Rattle.value_scrub.specs.Tally.{of_blocks, tally_in};
 ghost use Rattle.card_scrub.specs.Calls.{tallies_of, Scrubbed};
-ghost use Rattle.card_scrub.specs.Steps.{wrapped, summed, ScrubbedFields, ScrubbedFirst};
+ghost use Rattle.card_scrub.specs.Steps.{summed, ScrubbedFields, ScrubbedFirst};
+ghost use Rattle.card_scrub.specs.Sums.{summed_again};
 
 use fields::{BLOCK, Field, HEAD};
-use image::CheckAnswer;
 use page::Tally;
 use refusals::Refusal;
-use value_scrub::Blocks;
+use value_scrub::{Blocks, Count};
 
-#[derive(Drop)]
+// What was counted of grids, and of blocks.
+#[derive(Clone, Copy, Debug, Default, PartialEq, Eq)]
 pub struct Tallies {
     pub grids: Tally,
     pub blocks: Blocks,
 }
 
-// The tallies of a scrub that was done, or a refusal.
+// A data field: its bytes, head and value, and what was counted in it. Beside card_read's `First`: one type for both would stand public in
+// a crate below, for two private uses.
 #[derive(Drop)]
-pub enum ScrubAnswer {
-    Done(Tallies),
-    Refused(Refusal),
+struct First {
+    size: usize,
+    here: Tallies,
 }
 
-// What stands at the front of a slice: a data field, with its bytes, head and value, and what was counted in it; or the end.
-#[derive(Drop)]
-enum First {
-    Data { size: usize, here: Tallies },
-    End,
-}
+impl Count for Tallies {
+    ghost sum = { summed };
 
-// Two tallies of blocks, added up. The sums wrap.
-fn both_blocks(here: Blocks, there: Blocks) -> Blocks
-    ensures { result ≡ of_blocks (wrapped (plus (tally_in here) (tally_in there))) }
-{
-    Blocks {
-        blocks: std::num::wrapping_add_u32(here.blocks, there.blocks),
-        clean: std::num::wrapping_add_u32(here.clean, there.clean),
-        mended: std::num::wrapping_add_u32(here.mended, there.mended),
-        lost: std::num::wrapping_add_u32(here.lost, there.lost),
-        flips: std::num::wrapping_add_u32(here.flips, there.flips),
-    }
-}
+    ghost associative = { summed_again };
 
-impl Tallies {
-    // Those of no fields.
-    fn none() -> Tallies
-        ensures { result ≡ tallies_of [] }
-    {
+    fn plus(self, behind: Tallies) -> Tallies {
         Tallies {
-            grids: Tally::none(),
-            blocks: value_scrub::no_blocks(),
-        }
-    }
-
-    // Both, with what was counted in one field more.
-    fn with_field(self, here: Tallies) -> Tallies
-        ensures { result ≡ summed self here }
-    {
-        let grids = self.grids;
-        let more_grids = here.grids;
-        let blocks = self.blocks;
-        let more_blocks = here.blocks;
-        Tallies {
-            grids: value_scrub::both(grids, more_grids),
-            blocks: both_blocks(blocks, more_blocks),
+            grids: self.grids.plus(behind.grids),
+            blocks: self.blocks.plus(behind.blocks),
         }
     }
 }
 
-// The field at the front of a slice, scrubbed and counted where it is a data field.
-fn scrub_first(rest: &mut [u8]) -> First
+// The field at the front of a slice, scrubbed and counted where it is a data field; or the end, and then there is none.
+fn scrub_first(rest: &mut [u8]) -> Option<First>
     requires { Walks rest.old }
     ensures { ScrubbedFirst rest.old result rest.new }
 {
-    match fields::front(rest) {
+    match fields::front(rest)? {
         Field::Grids(n) => {
             let size = HEAD + n;
             let grids = value_scrub::grids(&mut rest[HEAD..size]);
-            First::Data {
+            Some(First {
                 size,
                 here: Tallies {
                     grids,
                     blocks: value_scrub::no_blocks(),
                 },
-            }
+            })
         }
         Field::Block => {
             let size = HEAD + BLOCK;
             let blocks = value_scrub::block(&mut rest[HEAD..size]);
-            First::Data {
+            Some(First {
                 size,
                 here: Tallies {
                     grids: Tally::none(),
                     blocks,
                 },
-            }
+            })
         }
-        _ => First::End,
+        Field::Title(_) | Field::End => None,
     }
 }
 
-// The data fields at the front of a slice, up to the end field.
+// The data fields at the front of a slice, up to the end field. No `for`: only the step knows how far a field goes.
 fn scrub_fields(rest: &mut [u8]) -> Tallies
     requires { Walks rest.old }
     ensures { ScrubbedFields rest.old result rest.new }
 {
-    let mut tallies = Tallies::none();
+    let mut tallies = Tallies::default();
     let mut at: usize = 0;
-    loop {
-        match scrub_first(&mut rest[at..]) {
-            First::Data { size, here } => {
-                tallies = tallies.with_field(here);
-                at = at + size;
-            }
-            First::End => {
-                return tallies;
-            }
-        }
+    while let Some(first) = scrub_first(&mut rest[at..]) {
+        tallies = tallies.plus(first.here);
+        at += first.size;
     }
+    tallies
 }
 
 // Scrubs each data field of an image, within the image.
-pub fn scrub(image: &mut [u8]) -> ScrubAnswer
+pub fn scrub(image: &mut [u8]) -> Result<Tallies, Refusal>
     ensures { Scrubbed image.old result image.new }
 {
-    match image::check(image) {
-        CheckAnswer::Refused(why) => ScrubAnswer::Refused(why),
-        CheckAnswer::Done {
-            grids: _,
-            blocks: _,
-        } => {
-            let title = image::title(image).len();
-            let end = HEAD + title;
-            ScrubAnswer::Done(scrub_fields(&mut image[end..]))
-        }
-    }
+    image::check(image)?;
+    let title = image::title(image).len();
+    let end = HEAD + title;
+    Ok(scrub_fields(&mut image[end..]))
 }

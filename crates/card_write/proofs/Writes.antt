@@ -1,15 +1,15 @@
 -- The image that is written, and the order of the writer's refusals. Assumes nothing.
-use mathlib.Core.Path.{◌≡◌, refl, sym, ap, ◌∙◌, subst}
+use Rattle.std.specs.Prelude.{Err, Ok, Result}
+use mathlib.Core.Path.{◌≡◌, refl, sym, ap, ◌∙◌}
 use mathlib.Core.Logic.{◌≢◌}
-use mathlib.Core.Bool.{Bool, true, false, ◌&&◌, false≢true}
+use Rattle.std.specs.List.{list_any}
+use mathlib.Core.Bool.{Bool, true, false, ◌&&◌, ◌||◌, not, false≢true}
 use mathlib.Core.List.{List, [], ◌∷◌, ◌++◌, map, append_assoc, append-nil}
-use Prim.Native.Nat.{ℕ, zero, suc, ◌+◌, ◌≤◌, ◌<◌}
+use Prim.Native.Nat.{ℕ, zero, suc, ◌≤◌, ◌<◌}
 use native.Mathlib.Decide.{ℕ_discrete, dec_le}
-use native.Mathlib.Numerals.{add-one}
 use native.Mathlib.Omega.{arith}
 use lib.Dec.{leb, eqb}
-use lib.ListN.{length, get_or, take}
-use lib.Seq.{take-suc}
+use lib.ListN.{length, get_or}
 use borrow.Author.Tests.{le-leb, lt-leb, eq-eqb, ne_eqb}
 use Rattle.words.specs.Word.{choose}
 use Rattle.words.specs.Bytes.{laid}
@@ -20,8 +20,6 @@ use Rattle.grid_code.specs.Verdict.{erased}
 use Rattle.page.specs.Calls.{most_grids}
 use Rattle.fields.specs.Fields.{title_length, first_bad}
 use Rattle.image.specs.Card.{grids, head, part_bytes, parts_bytes, front_of, image_of}
-use Rattle.card_write.specs.declared.WriteAnswer.{WriteAnswer}
-use Rattle.card_write.specs.declared.WriteAnswer.TheVariants.{Done, Refused}
 use Rattle.card_write.specs.Calls.{card_with, size_written, lengths_allowed, none_erased, written_as, Wrote}
 
 -- the parts, one behind the other
@@ -36,15 +34,12 @@ written_is title ns =
 -- ---- the order of the refusals
 
 -- no second outcome
-pub same : {title ns image a b : List ℕ} {r q : WriteAnswer} → Wrote title ns image r a → Wrote title ns image q b → (r ≡ q) × (a ≡ b)
+pub same : {title ns image a b : List ℕ} {r q : Result ℕ Refusal} → Wrote title ns image r a → Wrote title ns image q b → (r ≡ q) × (a ≡ b)
 same x y = (x.answer ∙ sym y.answer, x.after ∙ sym y.after)
 
 module _ (title ns : List ℕ) where
   pub no_title : title_length (length title) ≡ false → lengths_allowed title ns ≡ false
   no_title e = ap (λ (b : Bool). b && leb (length ns) most_grids) e
-
-  pub many_numbers : title_length (length title) ≡ true → most_grids < length ns → lengths_allowed title ns ≡ false
-  many_numbers e h = ap (λ (b : Bool). b && leb (length ns) most_grids) e ∙ lt-leb (length ns) most_grids h
 
   pub allowed : title_length (length title) ≡ true → length ns ≤ most_grids → lengths_allowed title ns ≡ true
   allowed e h = ap (λ (b : Bool). b && leb (length ns) most_grids) e ∙ le-leb (length ns) most_grids h
@@ -70,9 +65,9 @@ module _ {A : Type 0} (title ns : List ℕ) (room : ℕ) (refused : Refusal → 
 
 -- it is refused for one reason, or written
 pub data Decided (title ns image : List ℕ) : Type 0 where
-  no_image : (why : Refusal) → Wrote title ns image (Refused why) image → Decided title ns image
+  no_image : (why : Refusal) → Wrote title ns image (Err why) image → Decided title ns image
   image_written : lengths_allowed title ns ≡ true → first_bad title ≡ length title → none_erased ns ≡ true → size_written title ns ≤ length image
-      → Wrote title ns image (Done (size_written title ns)) (laid (image_of (card_with title ns)) image) → Decided title ns image
+      → Wrote title ns image (Ok (size_written title ns)) (laid (image_of (card_with title ns)) image) → Decided title ns image
 
 pub decided : (title ns image : List ℕ) → Decided title ns image
 decided title ns image =
@@ -88,78 +83,38 @@ decided title ns image =
         → Dec (size ≤ length image) → Decided title ns image
     go false e x k n y =
         no_image Length
-        (record { answer = not_allowed title ns (length image) Refused (Done size) e; after = not_allowed title ns (length image) (λ why. image) new e })
+        (record { answer = not_allowed title ns (length image) Err (Ok size) e; after = not_allowed title ns (length image) (λ why. image) new e })
     go true e (no h) k n y =
         no_image (Broken (first_bad title))
-        (record { answer = bad_byte title ns (length image) Refused (Done size) e h; after = bad_byte title ns (length image) (λ why. image) new e h })
+        (record { answer = bad_byte title ns (length image) Err (Ok size) e h; after = bad_byte title ns (length image) (λ why. image) new e h })
     go true e (yes h) false n y =
         no_image Erased
-        (record { answer = one_erased title ns (length image) Refused (Done size) e h n; after = one_erased title ns (length image) (λ why. image) new e h n })
+        (record { answer = one_erased title ns (length image) Err (Ok size) e h n; after = one_erased title ns (length image) (λ why. image) new e h n })
     go true e (yes h) true n (no l) =
         no_image Room
         (record {
-          answer = no_room title ns (length image) Refused (Done size) e h n (omega arith);
+          answer = no_room title ns (length image) Err (Ok size) e h n (omega arith);
           after = no_room title ns (length image) (λ why. image) new e h n (omega arith);
         })
     go true e (yes h) true n (yes l) =
         image_written e h n l
         (record {
-          answer = all_well title ns (length image) Refused (Done size) e h n l;
+          answer = all_well title ns (length image) Err (Ok size) e h n l;
           after = all_well title ns (length image) (λ why. image) new e h n l;
         })
 
--- where the answer is a refusal, nothing is to be written, ..
-pub refused_so : (title ns image : List ℕ) (r : WriteAnswer) (why : Refusal) → r ≡ Refused why
-    → r ≡ written_as title ns (length image) Refused (Done (size_written title ns)) → Wrote title ns image (Refused why) image
-refused_so title ns image r why is by = go (decided title ns image)
-  where
-    go : Decided title ns image → Wrote title ns image (Refused why) image
-    go (no_image reason w) = subst (λ r. Wrote title ns image r image) (w.answer ∙ sym by ∙ is) w
-    go (image_written e h n l w) =
-        let q : Done (size_written title ns) ≡ Refused why = w.answer ∙ sym by ∙ is in
-        let z : ◌≡◌ {A = ℕ} 0 1 = cc in
-        absurd (omega arith)
-
--- .. and where it is not, there is nothing to refuse
-pub done_so : (title ns image : List ℕ) (r : WriteAnswer) (k : ℕ) → r ≡ Done k
-    → r ≡ written_as title ns (length image) Refused (Done (size_written title ns))
-    → (lengths_allowed title ns ≡ true) × (none_erased ns ≡ true) × (size_written title ns ≤ length image)
-    × Wrote title ns image (Done k) (laid (image_of (card_with title ns)) image)
-done_so title ns image r k is by = go (decided title ns image)
-  where
-    go : Decided title ns image
-        → (lengths_allowed title ns ≡ true) × (none_erased ns ≡ true) × (size_written title ns ≤ length image)
-        × Wrote title ns image (Done k) (laid (image_of (card_with title ns)) image)
-    go (no_image why w) =
-        let q : Refused why ≡ Done k = w.answer ∙ sym by ∙ is in
-        let z : ◌≡◌ {A = ℕ} 0 1 = cc in
-        absurd (omega arith)
-    go (image_written e h n l w) =
-        (e, n, l, subst (λ r. Wrote title ns image r (laid (image_of (card_with title ns)) image)) (w.answer ∙ sym by ∙ is) w)
-
 -- ---- the numbers
 
-none_last : (ns : List ℕ) (n : ℕ) → none_erased (ns ++ (n ∷ [])) ≡ choose (eqb n erased) false (none_erased ns)
+-- as a look through them finds
+pub not_found : (ns : List ℕ) → not (list_any (λ n. eqb n erased) ns) ≡ none_erased ns
 unfolding none_erased
-none_last [] n = refl
-none_last (m ∷ ns) n = go (eqb m erased) (eqb n erased) (none_last ns n)
+not_found [] = refl
+not_found (n ∷ ns) = go (eqb n erased) (not_found ns)
   where
-    go : (b c : Bool) → none_erased (ns ++ (n ∷ [])) ≡ choose c false (none_erased ns)
-        → choose b false (none_erased (ns ++ (n ∷ []))) ≡ choose c false (choose b false (none_erased ns))
-    go true true e = refl
-    go true false e = refl
-    go false c e = e
-
--- one more of them
-module _ (ns : List ℕ) (i : ℕ) (l : i < length ns) where
-  more : none_erased (take (i + 1) ns) ≡ choose (eqb (get_or ns i 0) erased) false (none_erased (take i ns))
-  more = rw (add-one, take-suc ns i 0 l) (none_last (take i ns) (get_or ns i 0))
-
-  pub erased_here : get_or ns i 0 ≡ erased → none_erased (take (i + 1) ns) ≡ false
-  erased_here e = more ∙ (rw (eq-eqb (get_or ns i 0) erased e))
-
-  pub stored_here : get_or ns i 0 ≢ erased → none_erased (take (i + 1) ns) ≡ none_erased (take i ns)
-  stored_here ne = more ∙ (rw (ne_eqb (get_or ns i 0) erased ne))
+    go : (b : Bool) → not (list_any (λ n. eqb n erased) ns) ≡ none_erased ns
+        → not (b || list_any (λ n. eqb n erased) ns) ≡ choose b false (none_erased ns)
+    go true e = refl
+    go false e = e
 
 -- none of them is erased, one by one
 pub each_stored : (ns : List ℕ) → none_erased ns ≡ true → (i : ℕ) → i < length ns → get_or ns i 0 ≢ erased

@@ -1,10 +1,8 @@
 -- What the answer of the writer says: values, or a refusal (docs/FORMAT.md, The refusals). Assumes nothing.
-use Rattle.std.specs.Prelude.{ℕ}
-use Rattle.refusals.specs.Reply.{Reply, gives, refusal}
-use Rattle.card_write.specs.declared.WriteAnswer.{WriteAnswer}
-use Rattle.card_write.specs.declared.WriteAnswer.TheVariants.{Done, Refused}
+use Rattle.std.specs.Prelude.{ℕ, Result}
+use Rattle.refusals.specs.Reply.{Reply, reply}
+use Rattle.refusals.specs.declared.Refusal.{Refusal}
 
 -- the bytes written
-abbrev pub means : WriteAnswer → Reply ℕ
-means (Done n) = gives n
-means (Refused why) = refusal why
+abbrev pub means : (Result ℕ Refusal) → Reply ℕ
+means r = reply r

@@ -1,6 +1,6 @@
 -- What the call promises: one record, which determines the answer and every place of every lent slice. The order of the refusals is one
 -- definition, for the answer and for the memory. Assumes nothing.
-use Rattle.std.specs.Prelude.{◌≡◌, Bool, true, false, ◌&&◌, List, [], ◌∷◌, map, ℕ, ◌+◌, ◌*◌, leb, eqb, length}
+use Rattle.std.specs.Prelude.{◌≡◌, Bool, true, false, ◌&&◌, List, [], ◌∷◌, map, ℕ, ◌+◌, ◌*◌, leb, eqb, length, Err, Ok, Result}
 use Rattle.words.specs.Word.{choose}
 use Rattle.words.specs.Bytes.{laid}
 use Rattle.refusals.specs.declared.Refusal.{Refusal}
@@ -10,8 +10,6 @@ use Rattle.grid_code.specs.Verdict.{erased}
 use Rattle.page.specs.Calls.{most_grids}
 use Rattle.fields.specs.Fields.{head_bytes, title_length, first_bad}
 use Rattle.image.specs.Card.{grids, Card, image_of}
-use Rattle.card_write.specs.declared.WriteAnswer.{WriteAnswer}
-use Rattle.card_write.specs.declared.WriteAnswer.TheVariants.{Done, Refused}
 
 -- the card of a title and one grids field, ..
 abbrev pub card_on : List ℕ → List ℕ → Card
@@ -43,8 +41,8 @@ written_as title numbers room refused done =
     (refused (Broken (first_bad title))))
     (refused Length)
 
--- `card::write`: the image of the title and the numbers over the front of the slice, and how many bytes it has. Room behind stays untouched.
--- A refused call writes nothing.
-pub record Wrote (title numbers image : List ℕ) (r : WriteAnswer) (exit : List ℕ) : Type 0 where
-  pub answer : r ≡ written_as title numbers (length image) Refused (Done (size_written title numbers))
+-- `card::write`: the image of the title and the numbers over the front of the slice, and how many bytes it has. Room behind stays
+-- untouched. A refused call writes nothing.
+pub record Wrote (title numbers image : List ℕ) (r : Result ℕ Refusal) (exit : List ℕ) : Type 0 where
+  pub answer : r ≡ written_as title numbers (length image) Err (Ok (size_written title numbers))
   pub after : exit ≡ written_as title numbers (length image) (λ why. image) (laid (image_of (card_with title numbers)) image)

@@ -12,17 +12,59 @@
 #![tactic(auto)]
 
 ghost use Rattle.std.specs.Prelude.{◌≡◌, ◌≤◌, ◌<◌, length};
-ghost use Rattle.fields.specs.Calls.{Classified, Searched, Measured};
-ghost use Rattle.fields.specs.Fields.{head_bytes, size, is_title, is_grids, other_field};
+ghost use Rattle.fields.specs.Calls.{Tagged, TagRead, Classified, Searched, Measured};
+ghost use Rattle.fields.specs.Fields.{head_bytes, size, title_byte, is_title, is_grids, of_tag};
+ghost use Rattle.fields.specs.Tags.{byte_of};
 
-// What stands at the front of a slice. Title and grids come with the length of their value; Fails: at least one rule fails there.
-#[derive(Drop)]
+// The tags of the fields.
+#[derive(Clone, Copy, Debug, PartialEq, Eq)]
+pub enum Tag {
+    Title,
+    Grids,
+    Block,
+    End,
+}
+
+// A byte that is no tag.
+#[derive(Clone, Copy, Debug, PartialEq, Eq)]
+pub struct UnknownTag(pub u8);
+
+impl From<Tag> for u8 {
+    ghost from_gives = { Tagged };
+
+    fn from(tag: Tag) -> u8 {
+        match tag {
+            Tag::Title => 1,
+            Tag::Grids => 2,
+            Tag::Block => 3,
+            Tag::End => 0x7F,
+        }
+    }
+}
+
+impl TryFrom<u8> for Tag {
+    type Error = UnknownTag;
+
+    ghost try_from_gives = { TagRead };
+
+    fn try_from(byte: u8) -> Result<Self, UnknownTag> {
+        match byte {
+            1 => Ok(Tag::Title),
+            2 => Ok(Tag::Grids),
+            3 => Ok(Tag::Block),
+            0x7F => Ok(Tag::End),
+            _ => Err(UnknownTag(byte)),
+        }
+    }
+}
+
+// A field. Title and grids come with the length of their value.
+#[derive(Clone, Copy, Debug, PartialEq, Eq)]
 pub enum Field {
     Title(usize),
     Grids(usize),
     Block,
     End,
-    Fails,
 }
 
 // The bytes of a field's tag and length, of a title, of grids at most, and of a block.
@@ -41,102 +83,67 @@ fn size(rest: &[u8]) -> usize
     requires { head_bytes ≤ length rest.now }
     ensures { (result ≡ size rest.now) × (result < 65536) }
 {
-    (rest[1] as usize) * 256 + (rest[2] as usize)
+    usize::from(u16::from_be_bytes([rest[1], rest[2]]))
 }
 
-// The place of the first byte that no title has, or the length where there is none.
-#[tactic(auto, using(crate::proofs::Titles::low, crate::proofs::Titles::bad_here, crate::proofs::Titles::high))]
-pub fn first_bad(bytes: &[u8]) -> usize
+// Whether a title can have this byte.
+fn is_title_byte(b: u8) -> bool
+    ensures { result ≡ title_byte b }
+{
+    (0x20..=0x7E).contains(&b)
+}
+
+// The place of the first byte that no title has, if there is one.
+pub fn first_bad(bytes: &[u8]) -> Option<usize>
     ensures { Searched bytes.now result }
 {
-    let mut i: usize = 0;
-    while i < bytes.len() {
-        let b = bytes[i];
-        if b < 0x20 {
-            return i;
-        }
-        if b > 0x7E {
-            return i;
-        }
-        i += 1;
-    }
-    i
+    bytes.iter().position(|&b| !is_title_byte(b))
 }
 
 // Whether a title can have this length.
 pub fn is_title_length(n: usize) -> bool
     ensures { Measured n result }
 {
-    if n < TITLE_LEAST {
-        return false;
-    }
-    n <= TITLE_MOST
+    (TITLE_LEAST..=TITLE_MOST).contains(&n)
 }
 
 // Whether these bytes are the value of a title.
 fn is_title(bytes: &[u8]) -> bool
     ensures { result ≡ is_title bytes.now }
 {
-    if !is_title_length(bytes.len()) {
-        return false;
-    }
-    first_bad(bytes) == bytes.len()
+    is_title_length(bytes.len()) && first_bad(bytes).is_none()
 }
 
 // Whether grids can have this length.
 fn is_grids(n: usize) -> bool
     ensures { result ≡ is_grids n }
 {
-    if n > GRIDS_MOST {
-        return false;
-    }
-    n % 8 == 0
+    n <= GRIDS_MOST && n % 8 == 0
 }
 
-// The field of a tag that is no title's, and of a length.
-fn other_field(tag: u8, n: usize) -> Field
-    ensures { result ≡ other_field tag n }
+// The field of a tag and a value, or none: the value has another length, or a bad title byte.
+fn of_tag(tag: Tag, value: &[u8]) -> Option<Field>
+    ensures { result ≡ of_tag (byte_of tag) value.now }
 {
-    if tag == 2 {
-        if is_grids(n) {
-            return Field::Grids(n);
-        }
-        return Field::Fails;
+    let n = value.len();
+    match tag {
+        Tag::Title => is_title(value).then_some(Field::Title(n)),
+        Tag::Grids => is_grids(n).then_some(Field::Grids(n)),
+        Tag::Block => (n == BLOCK).then_some(Field::Block),
+        Tag::End => (n == 0).then_some(Field::End),
     }
-    if tag == 3 {
-        if n == BLOCK {
-            return Field::Block;
-        }
-        return Field::Fails;
-    }
-    if tag == 0x7F {
-        if n == 0 {
-            return Field::End;
-        }
-        return Field::Fails;
-    }
-    Field::Fails
 }
 
-// The field at the front of a slice.
-#[tactic(auto, using(crate::proofs::Fields::past_end))]
-pub fn front(rest: &[u8]) -> Field
+// The field at the front of a slice, or none: at least one rule fails there.
+pub fn front(rest: &[u8]) -> Option<Field>
     ensures { Classified rest.now result }
 {
     if rest.len() < HEAD {
-        return Field::Fails;
+        return None;
     }
-    let n = size(rest);
-    let end = HEAD + n;
+    let end = HEAD + size(rest);
     if rest.len() < end {
-        return Field::Fails;
+        return None;
     }
-    let tag = rest[0];
-    if tag == 1 {
-        if is_title(&rest[HEAD..end]) {
-            return Field::Title(n);
-        }
-        return Field::Fails;
-    }
-    other_field(tag, n)
+    of_tag(Tag::try_from(rest[0]).ok()?, &rest[HEAD..end])
 }

@@ -1,7 +1,8 @@
 -- What specs/Promises.antt says of the grid's calls holds. Assumes nothing.
+use Rattle.std.specs.Prelude.{Err, Ok, Result}
 use mathlib.Core.Path.{◌≡◌, refl, sym, ap, ◌∙◌, subst}
 use mathlib.Core.Logic.{◌≢◌, ◌⊎◌, inl, inr, ⊎_elim}
-use mathlib.Core.Bool.{Bool, false}
+use mathlib.Core.Bool.{Bool}
 use mathlib.Core.List.{List}
 use Prim.Native.Nat.{ℕ, zero, suc, ◌^◌, ◌≤◌, ◌<◌}
 use native.Mathlib.Omega.{arith}
@@ -22,7 +23,6 @@ use Rattle.codes.specs.Verdict.{verdict, repaired, scrubbed, pattern_of}
 use Rattle.codes.specs.Tally.{is_clean}
 use Rattle.codes.specs.Trials.{Trials, Gives, one, two}
 use Rattle.codes.proofs.Promises.{answered-repaired, has_verdict, clean_word}
-use Rattle.grid_code.specs.Equations.{Codeword}
 use Rattle.grid_code.specs.Code.{codeword, code_of_grid}
 use Rattle.grid_code.specs.Sides.{sides}
 use Rattle.grid_code.specs.Verdict.{Verdict, clean, blank, mended, lost, erased, all_set, named, grid_verdict, IsGridVerdict, answered, flips_of, GridDemand3}
@@ -35,14 +35,13 @@ use Rattle.grid_trials.proofs.Decoder.{decide, decide_with, any_candidate}
 use Rattle.grid.specs.Answer.{verdict_of, replied, means, encode_means}
 use Rattle.grid.specs.Calls.{Encoded, Decoded}
 use Rattle.grid.specs.Promises.{EncodePromises, DecodePromises, TrialsPromises, CodewordPromises, OneOutcome}
-use Rattle.grid.specs.declared.Encoding.{Encoding}
-use Rattle.grid.specs.declared.EncodeAnswer.{EncodeAnswer}
-use Rattle.grid.specs.declared.EncodeAnswer.TheVariants.{Done, Refused}
 use Rattle.grid.specs.declared.Answer.{Answer}
 use Rattle.grid.specs.declared.Verdict as enum
 use Rattle.grid.specs.declared.Verdict.TheVariants.{Clean, Blank, Mended, Lost}
 use Rattle.grid.proofs.Numbers.{scrubbed_number}
 use Rattle.grid.proofs.Verdicts.{judged_clean}
+use Rattle.grid.specs.declared.Grid.{Grid}
+use Rattle.refusals.specs.declared.Refusal.{Refusal}
 
 -- ---- the reply
 
@@ -69,37 +68,39 @@ answered_given d (suc n) = refl
 
 -- ---- the encoder
 
-module _ (d : ℕ) (r : Encoding) (h : Encoded d r) where
-  accepted : d < erased → (r.answer ≡ Done) × (r.grid.rows ≡ digits 8 8 (codeword d))
-  accepted l =
-      let e : eqb d erased ≡ false = ne_eqb d erased (λ z. absurd (omega (arith, z))) in (
-        h.answer ∙ ap {B = EncodeAnswer} (λ (b : Bool). choose b (Refused Erased) Done) e,
-        h.grid ∙ ap (λ (b : Bool). digits 8 8 (choose b 0 (codeword d))) e,
-      )
+-- the grid of d
+grid_of : ℕ → Grid
+grid_of d = record { rows = digits 8 8 (codeword d) }
+
+module _ (d : ℕ) (r : Result Grid Refusal) (h : Encoded d r) where
+  accepted : d ≢ erased → r ≡ Ok (grid_of d)
+  unfolding grid_of
+  accepted ne = h.answer ∙ ap (λ (b : Bool). choose b (Err Erased) (Ok (grid_of d))) (ne_eqb d erased ne)
+
+  refused : d ≡ erased → r ≡ Err Erased
+  unfolding grid_of
+  refused e = h.answer ∙ ap (λ (b : Bool). choose b (Err Erased) (Ok (grid_of d))) (eq-eqb d erased e)
 
   -- what is given is the codeword of a number
-  written : (rows : List ℕ) → encode_means r.answer r.grid.rows ≡ gives rows → (r.answer ≡ Done) × (r.grid.rows ≡ rows)
-  written rows e = go r.answer e
-    where
-      go : (a : EncodeAnswer) → encode_means a r.grid.rows ≡ gives rows → (a ≡ Done) × (r.grid.rows ≡ rows)
-      go Done e = (refl, cc)
-      go (Refused why) e = nothing_given why e
+  not_erased : (rows : List ℕ) → encode_means r ≡ gives rows → d ≢ erased
+  not_erased rows e z = nothing_given Erased (sym (ap encode_means (refused z)) ∙ e)
 
-  not_erased : r.answer ≡ Done → d ≢ erased
-  not_erased e z =
-      let q : Done ≡ Refused Erased = sym e ∙ h.answer ∙ ap {B = EncodeAnswer} (λ (b : Bool). choose b (Refused Erased) Done) (eq-eqb d erased z) in
-      let n : ◌≡◌ {A = ℕ} 0 1 = cc in
-      absurd (omega arith)
+-- the rows that are given are those of the grid
+written : (r : Result Grid Refusal) (rows : List ℕ) → encode_means r ≡ gives rows → r ≡ Ok (record { rows = rows })
+written (Ok g) rows e = let same : g.rows ≡ rows = cc in ap (λ (rows : List ℕ). Ok (record { rows = rows })) same
+written (Err why) rows e = nothing_given why e
+
+given_rows : (d : ℕ) (r : Result Grid Refusal) → Encoded d r → (rows : List ℕ) → encode_means r ≡ gives rows → d ≢ erased
+    → rows ≡ digits 8 8 (codeword d)
+unfolding grid_of
+given_rows d r h rows e ne = let same : gives rows ≡ gives (digits 8 8 (codeword d)) = sym e ∙ ap encode_means (accepted d r h ne) in cc
 
 pub encode_promised : EncodePromises
+unfolding grid_of
 encode_promised = record {
-  accepted = λ d r l h.
-      let (a, g) = accepted d r h l in
-      ap (λ a. encode_means a r.grid.rows) a ∙ ap gives g;
-  refused = λ r h. ap (λ a. encode_means a r.grid.rows) h.answer;
-  meets = λ d r rows h e.
-      let (a, g) = written d r h rows e in
-      subst (λ rows. Codeword d (joined 8 rows)) g (h.meets a);
+  accepted = λ d r l h. ap encode_means (accepted d r h (λ z. absurd (omega (arith, z))));
+  refused = λ r h. ap encode_means (refused erased r h refl);
+  meets = λ d r rows h e. h.meets (record { rows = rows }) (written r rows e);
 }
 
 -- ---- the decoder
@@ -218,9 +219,8 @@ decode_promised = record {
   as_read = λ rows r n small h ne. as_read rows r h n small ne;
   blank_all_ones = λ rows n r h. blank_all_ones rows r h n;
   encoded = λ d rows e r l p z h.
-      let (a, g) = written d e p rows z in
-      let ne : d ≢ erased = not_erased d e p a in
-      let is : rows ≡ digits 8 8 (codeword d) = sym g ∙ (accepted d e p (omega (arith, ne))).1 in
+      let ne : d ≢ erased = not_erased d e p rows z in
+      let is : rows ≡ digits 8 8 (codeword d) = given_rows d e p rows z ne in
       let (v, o) =
       of_word rows r h (codeword d) (codes.clean d) (ap (joined 8) is ∙ joined-digits 8 8 (codeword d) (codeword_lt d l))
       (promised.verdicts.unharmed d l) in
@@ -279,10 +279,7 @@ codeword_promised = record {
 
 pub one_outcome : OneOutcome
 one_outcome = record {
-  encode = λ d a b p q. λ i. record {
-    answer = (p.answer ∙ sym q.answer) i;
-    grid = record { rows = (p.grid ∙ sym q.grid) i };
-  };
+  encode = λ d a b p q. p.answer ∙ sym q.answer;
   number = λ rows a b p q. p.answer ∙ sym q.answer;
   of_number = λ w a b p q. p.answer ∙ sym q.answer;
   is_codeword = λ rows a b p q. p.answer ∙ sym q.answer;

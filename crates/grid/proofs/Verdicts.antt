@@ -1,4 +1,5 @@
 -- The ways in which the decoder answers, over plain values: a codeword was read, one was found, none was. Assumes nothing.
+use Rattle.std.specs.Prelude.{None, Option, Some}
 use mathlib.Core.Path.{◌≡◌, refl, sym, ap, ap₂, ◌∙◌, subst}
 use mathlib.Core.Logic.{◌≢◌}
 use mathlib.Core.Bool.{true}
@@ -23,9 +24,8 @@ use Rattle.grid_code.specs.Steps.{Completed, Masked, Gathered}
 use Rattle.grid_code.proofs.Places.{data_masked, completes, data_back, data_lt}
 use Rattle.grid_code.proofs.Promises.{promised}
 use Rattle.grid_rows.specs.Repair.{fixed}
-use Rattle.grid_trials.specs.Steps.{near_of, Nearby}
+use Rattle.grid_trials.specs.Steps.{found, near_of, Nearby}
 use Rattle.grid_trials.specs.declared.Near.{Near}
-use Rattle.grid_trials.specs.declared.Near.TheVariants.{Within, Beyond}
 use Rattle.grid_trials.proofs.Decoder.{decide, any_report}
 use Rattle.grid.specs.Answer.{verdict_of}
 use Rattle.grid.specs.Calls.{Judged, Decoded}
@@ -87,33 +87,41 @@ module _ (rows : List ℕ) (word : ℕ) (is : word ≡ joined 8 rows) where
       go lost e = ne_eqb number word (none e refl)
 
   -- a codeword is its own nearest
-  pub is_codeword : Judged rows true → Nearby rows (Within word 0 1)
+  pub is_codeword : Judged rows true → Nearby rows (found word 0 1)
   is_codeword j =
       let (d, p) = judged_clean rows j in
       let (l, s) = clean_word code_of_grid promised.verdicts (joined 8 rows) d p in
       record {
         is = record {
           trials = 1;
-          answer = ap (λ (w : ℕ). Within w 0 1) (is ∙ s) ∙ sym (ap (near_of 1) p);
+          answer = ap (λ (w : ℕ). found w 0 1) (is ∙ s) ∙ sym (ap (near_of 1) p);
           reported = decide.clean_one (joined 8 rows) d p;
         };
       }
 
 -- ---- by the trials
 
+same_near : {a b : Near} → Some a ≡ Some b → a ≡ b
+same_near e = cc
+
 -- a verdict that has a codeword within the radius
-within_is : (w number flips k n : ℕ) (v : Verdict) → IsVerdict code_of_grid w v → Within number flips k ≡ near_of n v
+within_is : (w number flips k n : ℕ) (v : Verdict) → IsVerdict code_of_grid w v → found number flips k ≡ near_of n v
     → (d : ℕ) × (d < 2 ^ 16) × (number ≡ codeword d) × (v ≡ answered d flips) × (n ≡ k)
 within_is w number flips k n (clean d) p e =
-    let z : flips ≡ 0 = cc in
-    (d, p.below, (cc), sym (ap (answered d) z), (cc))
+    let same = same_near e in
+    (d, p.below, ap (λ x. x.number) same, sym (ap (λ x. answered d x.flips) same), sym (ap (λ x. x.trials) same))
 within_is w number flips k n (mended d m) (p, l, r) e =
-    let z : flips ≡ m = cc in
-    (d, p.below, (cc), sym (ap (answered d) z ∙ some_flips d m (λ z. absurd (omega arith))), (cc))
+    let same = same_near e in (
+      d,
+      p.below,
+      ap (λ x. x.number) same,
+      sym (ap (λ x. answered d x.flips) same ∙ some_flips d m (λ z. absurd (omega arith))),
+      sym (ap (λ x. x.trials) same),
+    )
 within_is w number flips k n lost p e = let z : ◌≡◌ {A = ℕ} 0 1 = cc in absurd (omega arith)
 
 -- .. and one that has none
-beyond_is : (n : ℕ) (v : Verdict) → Beyond ≡ near_of n v → v ≡ lost
+beyond_is : (n : ℕ) (v : Verdict) → None ≡ near_of n v → v ≡ lost
 beyond_is n (clean d) e = let z : ◌≡◌ {A = ℕ} 0 1 = cc in absurd (omega arith)
 beyond_is n (mended d m) e = let z : ◌≡◌ {A = ℕ} 0 1 = cc in absurd (omega arith)
 beyond_is n lost e = refl
@@ -121,7 +129,7 @@ beyond_is n lost e = refl
 module _ (rows : List ℕ) where
   -- whatever it is called, what is written is the codeword
   module _ (number flips k word p : ℕ) (out : List ℕ) (o : out ≡ digits 8 8 number) (w : word ≡ joined 8 rows) (q : p ≡ bit_xor word number)
-      (by : Nearby rows (Within number flips k)) where
+      (by : Nearby rows (found number flips k)) where
     pub answers : (v : enum.Verdict) → ((d : ℕ) → d < 2 ^ 16 → number ≡ codeword d → verdict_of v ≡ named (answered d flips))
         → Decoded rows (record { verdict = v; grid = record { rows = out }; pattern = p; trials = k })
     answers v a =
@@ -132,9 +140,9 @@ module _ (rows : List ℕ) where
         decoded rows out p k v (answered d flips) u (a d l s) (o ∙ ap (digits 8 8) c) (q ∙ ap₂ bit_xor w c)
         (subst (Trials sides code_of_grid fixed (joined 8 rows)) t by.is.reported)
 
-  pub is_lost_lem : (found : Near) → Nearby rows found → found ≡ Beyond → length rows ≡ 8 → Below 8 rows
+  pub is_lost_lem : (r : Option Near) → Nearby rows r → r ≡ None → length rows ≡ 8 → Below 8 rows
       → Decoded rows (record { verdict = Lost; grid = record { rows = rows }; pattern = 0; trials = 2 })
-  is_lost_lem found by is eight small =
+  is_lost_lem r by is eight small =
       let v : verdict code_of_grid (joined 8 rows) ≡ lost = beyond_is by.is.trials (verdict code_of_grid (joined 8 rows)) (sym is ∙ by.is.answer) in
       decoded rows rows 0 2 Lost lost v refl (sym (promised.back_and_there rows eight small)) (sym (xor_self (joined 8 rows)))
       (decide.lost_two (joined 8 rows) v)

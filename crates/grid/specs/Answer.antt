@@ -1,13 +1,13 @@
 -- What the answers of decoder and encoder say: values, or a refusal (docs/FORMAT.md, Verdicts). Assumes nothing.
-use Rattle.std.specs.Prelude.{List, ℕ}
+use Rattle.std.specs.Prelude.{List, ℕ, Err, Ok, Result}
 use Rattle.refusals.specs.declared.Refusal.TheVariants.{LostGrid}
 use Rattle.refusals.specs.Reply.{Reply, gives, refusal}
 use Rattle.grid_code.specs.Verdict as grid_code
 use Rattle.grid_code.specs.Verdict.{clean, blank, mended, lost}
 use Rattle.grid.specs.declared.Verdict.{Verdict}
 use Rattle.grid.specs.declared.Verdict.TheVariants.{Clean, Blank, Mended, Lost}
-use Rattle.grid.specs.declared.EncodeAnswer.TheVariants.{Done, Refused}
-use Rattle.grid.specs.declared.EncodeAnswer.{EncodeAnswer}
+use Rattle.grid.specs.declared.Grid.{Grid}
+use Rattle.refusals.specs.declared.Refusal.{Refusal}
 
 -- The verdict, with its values, for each case of the enum, ..
 abbrev pub verdict_of : Verdict → grid_code.Verdict
@@ -26,7 +26,7 @@ replied lost = refusal LostGrid
 abbrev pub means : Verdict → Reply grid_code.Verdict
 means v = replied (verdict_of v)
 
--- What the encoder says, by its answer and the rows beside it: these are what it gives.
-abbrev pub encode_means : EncodeAnswer → List ℕ → Reply (List ℕ)
-encode_means Done rows = gives rows
-encode_means (Refused why) rows = refusal why
+-- What the encoder says: it gives the rows of the grid.
+abbrev pub encode_means : Result Grid Refusal → Reply (List ℕ)
+encode_means (Ok g) = gives g.rows
+encode_means (Err why) = refusal why

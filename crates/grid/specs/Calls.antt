@@ -1,5 +1,5 @@
 -- What each call of the crate promises: one record a call, which determines the answer. Assumes nothing.
-use Rattle.std.specs.Prelude.{◌≡◌, Bool, List, ℕ, eqb}
+use Rattle.std.specs.Prelude.{◌≡◌, Bool, List, ℕ, eqb, Err, Ok, Result}
 use Rattle.words.specs.Word.{choose}
 use Rattle.words.specs.Digits.{digits, joined}
 use Rattle.refusals.specs.declared.Refusal.TheVariants.{Erased}
@@ -11,22 +11,20 @@ use Rattle.grid_code.specs.Code.{codeword, code_of_grid}
 use Rattle.grid_code.specs.Sides.{sides}
 use Rattle.grid_code.specs.Verdict.{erased, grid_verdict}
 use Rattle.grid.specs.Answer.{verdict_of}
-use Rattle.grid.specs.declared.Encoding.{Encoding}
-use Rattle.grid.specs.declared.EncodeAnswer.TheVariants.{Done, Refused}
 use Rattle.grid.specs.declared.Answer.{Answer}
+use Rattle.grid.specs.declared.Grid.{Grid}
+use Rattle.refusals.specs.declared.Refusal.{Refusal}
 
--- `Grid::encode`: the rows of the grid of d, which meets the equations. The value 65,535, whose grid is all ones, is refused, and all rows
--- are zero.
-pub record Encoded (d : ℕ) (r : Encoding) : Type 0 where
-  pub answer : r.answer ≡ choose (eqb d erased) (Refused Erased) Done
-  pub grid : r.grid.rows ≡ digits 8 8 (choose (eqb d erased) 0 (codeword d))
-  pub meets : r.answer ≡ Done → Codeword d (joined 8 r.grid.rows)
+-- `Grid::encode`: the grid of d, which meets the equations. The value 65,535, whose grid is all ones, is refused.
+pub record Encoded (d : ℕ) (r : Result Grid Refusal) : Type 0 where
+  pub answer : r ≡ choose (eqb d erased) (Err Erased) (Ok (record { rows = digits 8 8 (codeword d) }))
+  pub meets : (g : Grid) → r ≡ Ok g → Codeword d (joined 8 g.rows)
 
--- `Grid::number`: row r is byte r, lowest byte first.
+-- `u64::from` of a grid: row r is byte r, lowest byte first.
 pub record Numbered (rows : List ℕ) (w : ℕ) : Type 0 where
   pub answer : w ≡ joined 8 rows
 
--- `Grid::of_number`: the same, back.
+-- `Grid::from` a number: the same, back.
 pub record Parted (w : ℕ) (rows : List ℕ) : Type 0 where
   pub answer : rows ≡ digits 8 8 w
 

@@ -1,7 +1,7 @@
 -- What is proved of the grid's calls, whatever was given or read (`encode_promised`, `decode_promised`, `trials_promised`,
 -- `codeword_promised`, `one_outcome`).
 -- What is proved of the code stands in the crate grid_code. Assumes nothing.
-use Rattle.std.specs.Prelude.{◌≡◌, ◌≢◌, ◌⊎◌, Bool, true, List, ℕ, ◌+◌, ◌^◌, ◌≤◌, ◌<◌, length}
+use Rattle.std.specs.Prelude.{◌≡◌, ◌≢◌, ◌⊎◌, Bool, true, List, ℕ, ◌+◌, ◌^◌, ◌≤◌, ◌<◌, length, Result}
 use Rattle.std.specs.Int.Bits.{bit_xor}
 use Rattle.std.specs.Int.Count.{ones}
 use Rattle.words.specs.Word.{dist}
@@ -16,13 +16,14 @@ use Rattle.grid_code.specs.Verdict.{Verdict, clean, blank, erased, all_set, IsGr
 use Rattle.grid.specs.Answer.{verdict_of, means, encode_means}
 use Rattle.grid.specs.Calls.{Encoded, Numbered, Parted, Judged, Decoded}
 use Rattle.grid.specs.declared.Answer.{Answer}
-use Rattle.grid.specs.declared.Encoding.{Encoding}
+use Rattle.grid.specs.declared.Grid.{Grid}
+use Rattle.refusals.specs.declared.Refusal.{Refusal}
 
 -- What the encoder promises. Demand 2: 0 to 65,534 are encoded by the equations, and 65,535 is refused with 7.
 pub record EncodePromises : Type 0 where
-  pub accepted : (d : ℕ) (r : Encoding) → d < erased → Encoded d r → encode_means r.answer r.grid.rows ≡ gives (digits 8 8 (codeword d))
-  pub refused : (r : Encoding) → Encoded erased r → encode_means r.answer r.grid.rows ≡ refuses 7
-  pub meets : (d : ℕ) (r : Encoding) (rows : List ℕ) → Encoded d r → encode_means r.answer r.grid.rows ≡ gives rows
+  pub accepted : (d : ℕ) (r : Result Grid Refusal) → d < erased → Encoded d r → encode_means r ≡ gives (digits 8 8 (codeword d))
+  pub refused : (r : Result Grid Refusal) → Encoded erased r → encode_means r ≡ refuses 7
+  pub meets : (d : ℕ) (r : Result Grid Refusal) (rows : List ℕ) → Encoded d r → encode_means r ≡ gives rows
       → Codeword d (joined 8 rows)
 
 -- What the answer of a decoder promises, whatever was read.
@@ -55,8 +56,8 @@ pub record DecodePromises : Type 0 where
   pub blank_all_ones : (rows : List ℕ) (n : ℕ) (r : Answer) → Decoded rows r → means r.verdict ≡ gives (blank n)
       → r.grid.rows ≡ digits 8 8 all_set
   -- Decoding what was encoded gives the same data, verdict clean.
-  pub encoded : (d : ℕ) (rows : List ℕ) (e : Encoding) (r : Answer) → d < 2 ^ 16 → Encoded d e
-      → encode_means e.answer e.grid.rows ≡ gives rows → Decoded rows r → (means r.verdict ≡ gives (clean d)) × (r.grid.rows ≡ rows)
+  pub encoded : (d : ℕ) (rows : List ℕ) (e : Result Grid Refusal) (r : Answer) → d < 2 ^ 16 → Encoded d e
+      → encode_means e ≡ gives rows → Decoded rows r → (means r.verdict ≡ gives (clean d)) × (r.grid.rows ≡ rows)
   -- Up to seven flips of a written grid, checks included, are undone, with the right data and count, and are shown as they were made, ..
   pub undone : (d p : ℕ) (r : Answer) → d < erased → p < 2 ^ 64 → ones p ≤ code_of_grid.radius → Decoded (digits 8 8 (bit_xor (codeword d) p)) r
       → (means r.verdict ≡ gives (answered d (ones p))) × (r.grid.rows ≡ digits 8 8 (codeword d)) × (r.pattern ≡ p)
@@ -93,7 +94,7 @@ pub record CodewordPromises : Type 0 where
 
 -- No second outcome satisfies the statement of a call.
 pub record OneOutcome : Type 0 where
-  pub encode : (d : ℕ) (a b : Encoding) → Encoded d a → Encoded d b → a ≡ b
+  pub encode : (d : ℕ) (a b : Result Grid Refusal) → Encoded d a → Encoded d b → a ≡ b
   pub number : (rows : List ℕ) (a b : ℕ) → Numbered rows a → Numbered rows b → a ≡ b
   pub of_number : (w : ℕ) (a b : List ℕ) → Parted w a → Parted w b → a ≡ b
   pub is_codeword : (rows : List ℕ) (a b : Bool) → Judged rows a → Judged rows b → a ≡ b

@@ -26,34 +26,39 @@
 ghost use Rattle.codes.specs.Promises.{States};
 ghost use Rattle.grid_code.specs.Code.{code_of_grid};
 ghost use Rattle.grid_trials.specs.Steps.{Nearby};
-ghost use Rattle.grid_trials.specs.declared.Near.TheVariants.{Within};
 ghost use Rattle.grid.specs.Calls.{Encoded, Numbered, Parted, Judged, Decoded};
 
 use grid_trials::Near;
 use refusals::Refusal;
 
-#[derive(Clone, Copy)]
+#[derive(Clone, Copy, Debug, PartialEq, Eq, Hash)]
 pub struct Grid {
     pub rows: [u8; 8],
 }
 
-// The answer of the encoder. It refuses 65,535, whose grid is all ones.
-#[derive(Drop)]
-pub enum EncodeAnswer {
-    Done,
-    Refused(Refusal),
+// The grid as a number.
+impl From<Grid> for u64 {
+    ghost from_gives = { λ grid w. Numbered grid.rows w };
+
+    fn from(grid: Grid) -> u64 {
+        grid_rows::number(grid.rows)
+    }
 }
 
-// The answer of the encoder, and beside it the grid: all zero where the value is refused.
-#[derive(Drop)]
-pub struct Encoding {
-    pub answer: EncodeAnswer,
-    pub grid: Grid,
+// The grid that a number is.
+impl From<u64> for Grid {
+    ghost from_gives = { λ w grid. Parted w grid.rows };
+
+    fn from(w: u64) -> Grid {
+        Grid {
+            rows: grid_rows::of_number(w),
+        }
+    }
 }
 
 // What was read, by the nearest codeword: its data, and the number of places that were not its own. All ones is an erased grid, which has
-// no data.
-#[derive(Drop)]
+// no data. A lost grid is a verdict and no `Err`, since grid and pattern are promised for it, too (`as_read`, `pattern_refused`).
+#[derive(Clone, Copy, Debug, PartialEq, Eq)]
 pub enum Verdict {
     Clean(u16),
     Blank { flips: u32 },
@@ -62,8 +67,9 @@ pub enum Verdict {
 }
 
 // A verdict, with the codeword beside it, or the grid as read where there is no data; the pattern of the flips: the places in which the
-// grid as read differs from that, zero where the grid is clean or lost; and the trials made: 1 if the first gave the codeword, 2 if not.
-#[derive(Drop)]
+// grid as read differs from that, zero where the grid is clean or lost, as `pattern_clean` and `pattern_refused` promise; and the trials
+// made: 1 if the first gave the codeword, 2 if not.
+#[derive(Clone, Copy, Debug, PartialEq, Eq)]
 pub struct Answer {
     pub verdict: Verdict,
     pub grid: Grid,
@@ -78,54 +84,36 @@ impl Grid {
 
     pub const DISTANCE: u32 = 16;
 
-    // The grid of a data value. RADIUS, LENGTH and DISTANCE are the code's own.
-    pub fn encode(value: u16) -> Encoding
+    // The grid of a data value. 65,535, whose grid is all ones, is refused. RADIUS, LENGTH and DISTANCE are the code's own.
+    pub fn encode(value: u16) -> Result<Grid, Refusal>
         ensures encoded { Encoded value result }
         ensures constants { States code_of_grid Grid.RADIUS Grid.LENGTH Grid.DISTANCE }
     {
         if value == grid_code::ERASED {
-            return Encoding {
-                answer: EncodeAnswer::Refused(Refusal::Erased),
-                grid: Grid { rows: [0; 8] },
-            };
+            return Err(Refusal::Erased);
         }
-        Encoding {
-            answer: EncodeAnswer::Done,
-            grid: Grid::of_number(grid_code::encoded(value)),
-        }
-    }
-
-    // The grid as a number.
-    pub fn number(self) -> u64
-        ensures { Numbered self.rows result }
-    {
-        let rows = self.rows;
-        grid_rows::number(rows)
-    }
-
-    // The grid that a number is.
-    pub fn of_number(w: u64) -> Grid
-        ensures { Parted w result.rows }
-    {
-        Grid {
-            rows: grid_rows::of_number(w),
-        }
+        Ok(Grid::from(grid_code::encoded(value)))
     }
 
     // Whether a grid that was read is a codeword, all ones among them.
     pub fn is_codeword(self) -> bool
         ensures { Judged self.rows result }
     {
-        let word = self.number();
+        let word = u64::from(self);
         grid_code::completed(grid_code::places_of(word)) == word
     }
 
-    // The answer where the codeword that is near enough was found, with the number of places that differ and the trials made.
-    fn answered(self, number: u64, flips: u32, trials: u32) -> Answer
-        ensures { Nearby self.rows (Within number flips trials) → Decoded self.rows result }
+    // The answer where the codeword that is near enough was found.
+    fn answered(self, near: Near) -> Answer
+        ensures { Nearby self.rows (Some near) → Decoded self.rows result }
     {
-        let grid = Grid::of_number(number);
-        let pattern = self.number() ^ number;
+        let Near {
+            number,
+            flips,
+            trials,
+        } = near;
+        let grid = Grid::from(number);
+        let pattern = u64::from(self) ^ number;
         if number == grid_code::ALL_ONES {
             return Answer {
                 verdict: Verdict::Blank { flips },
@@ -156,13 +144,7 @@ impl Grid {
     pub fn mend(self) -> Answer
         ensures { Decoded self.rows result }
     {
-        let rows = self.rows;
-        let Near::Within {
-            number,
-            flips,
-            trials,
-        } = grid_trials::nearest(rows)
-        else {
+        let Some(near) = grid_trials::nearest(self.rows) else {
             return Answer {
                 verdict: Verdict::Lost,
                 grid: self,
@@ -170,7 +152,7 @@ impl Grid {
                 trials: 2,
             };
         };
-        self.answered(number, flips, trials)
+        self.answered(near)
     }
 
     // The same, and quicker where the grid is a codeword.
@@ -178,7 +160,11 @@ impl Grid {
         ensures { Decoded self.rows result }
     {
         if self.is_codeword() {
-            return self.answered(self.number(), 0, 1);
+            return self.answered(Near {
+                number: u64::from(self),
+                flips: 0,
+                trials: 1,
+            });
         }
         self.mend()
     }

@@ -22,7 +22,7 @@ pub const ALL_ONES: u64 = 0xFFFF_FFFF_FFFF_FFFF;
 pub fn data_places(value: u16) -> u32
     ensures { Arranged value result }
 {
-    let v = value as u32;
+    let v = u32::from(value);
     let pairs = (v ^ (v << 8)) & 0x00FF_00FF;
     (pairs ^ (pairs << 4)) & 0x0F0F_0F0F
 }
@@ -61,7 +61,7 @@ fn lower(rows: u32) -> u32
 }
 
 // The checks of each row, all eight rows at a time: what places 4 to 7 have beyond those of the row's data places, in places 0 to 3. The
-// rows are made of their data places as `upper` makes four.
+// rows are made of their data places as `upper` makes four. One function for both misses the bar of `clean`: 52 instructions of 50.
 pub fn row_checks(w: u64) -> u64
     ensures { RowChecks w result }
 {
@@ -89,7 +89,7 @@ pub fn completed(places: u32) -> u64
     ensures { Completed places result }
 {
     let rows = upper(places);
-    ((lower(rows) as u64) << 32) | (rows as u64)
+    (u64::from(lower(rows)) << 32) | u64::from(rows)
 }
 
 // The data places of a grid.

@@ -1,9 +1,10 @@
 -- From the steps to the word that agrees: a word that has the rows that are not set aside agrees, and one that agrees has them, but for one
 -- row where there are few. Assumes nothing.
+use Rattle.std.specs.Prelude.{None, Option, Some}
 use mathlib.Core.Path.{◌≡◌, refl, sym, ap, ◌∙◌, subst}
 use mathlib.Core.Logic.{◌≢◌, ◌⊎◌, inl, inr}
 use Prim.Native.Nat.{ℕ, zero, suc, ◌+◌, ◌*◌, ◌%◌, ◌^◌, ◌≤◌, ◌<◌, suc-le-suc, min}
-use native.Mathlib.Nat.{zero-lt-suc, le_of_suc-le-suc, eq-zero-or-pos}
+use native.Mathlib.Nat.{zero-lt-suc, le_of_suc-le-suc}
 use native.Mathlib.Decide.{ℕ_discrete}
 use native.Mathlib.Omega.{arith}
 use lib.Bits.{bit_and, bit_xor, differ}
@@ -16,11 +17,8 @@ use Rattle.words.proofs.Sum.{sum_eq, sum_zero, sum_none, sum_single}
 use Rattle.words.proofs.Test.{all_below, at_below}
 use Rattle.codes.specs.Product.{unlike}
 use Rattle.grid_code.specs.Sides.{row_of}
-use Rattle.codes.proofs.Deciding.{same_word}
-use Rattle.grid_columns.specs.declared.Solution.{Solution}
-use Rattle.grid_columns.specs.declared.Solution.TheVariants.{Found, None}
 use Rattle.grid_columns.specs.Columns.{InColumns, wrong, Agrees, Solves}
-use Rattle.grid_columns.specs.Steps.{Asides, Keeps, Mends, One, Beside, Tested}
+use Rattle.grid_columns.specs.Steps.{Asides, Taken, Keeps, Mends, One, Beside, Tested}
 use Rattle.grid_columns.proofs.Rows.{flip_here, flip_there}
 
 -- s agrees with the rows, but for the columns; and it is each word that agrees
@@ -29,8 +27,8 @@ pub record Candidate (rows aside s : ℕ) : Type 0 where
   pub all : (y : ℕ) → Agrees rows aside y → s ≡ y
 
 -- so the columns decide
-pub decided : {rows aside s : ℕ} (r : Solution) → s < 2 ^ 64 → Candidate rows aside s → Tested s r → Solves rows aside r
-decided {rows} {aside} (Found y) h c (e, code) = subst (Agrees rows aside) (sym e) (record { fits = h; code = code; few = c.few })
+pub decided : {rows aside s : ℕ} (r : Option ℕ) → s < 2 ^ 64 → Candidate rows aside s → Tested s r → Solves rows aside r
+decided {rows} {aside} (Some y) h c (e, code) = subst (Agrees rows aside) (sym e) (record { fits = h; code = code; few = c.few })
 decided None h c none = λ y a. none (subst InColumns (sym (c.all y a)) a.code)
 
 -- ---- row by row
@@ -129,15 +127,6 @@ module _ (M : ℕ → Type 0) (rows aside s : ℕ) (named : (r : ℕ) → r < 8 
 
 -- ---- the rows set aside, one after the other
 
--- i is set aside, and rest are the others
-pub record Taken (aside i rest : ℕ) : Type 0 where
-  pub below : i < 8
-  pub asides : Asides rest
-  pub here : row_of aside i ≡ 1
-  pub gone : row_of rest i ≡ 0
-  pub same : (r : ℕ) → r < 8 → r ≢ i → row_of rest r ≡ row_of aside r
-  pub sum : sum_to 8 (row_of aside) ≡ suc (sum_to 8 (row_of rest))
-
 sum_less : (n i : ℕ) (f g : ℕ → ℕ) → i < n → f i ≡ suc (g i) → ((r : ℕ) → r < n → r ≢ i → g r ≡ f r) → sum_to n f ≡ suc (sum_to n g)
 sum_less zero i f g l e s = absurd (omega arith)
 sum_less (suc n) zero f g l e s =
@@ -149,10 +138,8 @@ sum_less (suc n) (suc i) f g l e s =
       sum_less n i (λ r. f (suc r)) (λ r. g (suc r)) (le_of_suc-le-suc l) e (λ r h ne. s (suc r) (suc-le-suc h) (λ z. ne (omega arith))),
     )
 
-pub take : {aside i rest : ℕ} → Asides aside → i < 8 → row_of aside i ≡ 1 → rest ≡ bit_xor aside (1 * 2 ^ (8 * i)) → Taken aside i rest
-take {aside} {i} {rest} p l e is = record {
-  below = l;
-  asides = λ r h. small r h (ℕ_discrete r i);
+pub take : {aside i rest : ℕ} → i < 8 → row_of aside i ≡ 1 → rest ≡ bit_xor aside (1 * 2 ^ (8 * i)) → Taken aside i rest
+take {aside} {i} {rest} l e is = record {
   here = e;
   gone = gone;
   same = same;
@@ -165,9 +152,12 @@ take {aside} {i} {rest} p l e is = record {
     same : (r : ℕ) → r < 8 → r ≢ i → row_of rest r ≡ row_of aside r
     same r h ne = ap (λ (x : ℕ). row_of x r) is ∙ flip_there aside i 1 l (lit< tt) r h ne
 
-    small : (r : ℕ) → r < 8 → Dec (r ≡ i) → row_of rest r < 2
-    small r h (yes q) = subst (λ (x : ℕ). x < 2) (sym (ap (row_of rest) q ∙ gone)) (lit< tt)
-    small r h (no ne) = subst (λ (x : ℕ). x < 2) (sym (same r h ne)) (p r h)
+pub others_aside : {aside i rest : ℕ} → Asides aside → Taken aside i rest → Asides rest
+others_aside {aside} {i} {rest} p t r h = go (ℕ_discrete r i)
+  where
+    go : Dec (r ≡ i) → row_of rest r < 2
+    go (yes q) = subst (λ (x : ℕ). x < 2) (sym (ap (row_of rest) q ∙ t.gone)) (lit< tt)
+    go (no ne) = subst (λ (x : ℕ). x < 2) (sym (t.same r h ne)) (p r h)
 
 pub marked : (marks : ℕ) → marks < 2 ^ 64 → Asides (bit_and marks 0x0101_0101_0101_0101)
 marked marks h r l =
@@ -204,10 +194,6 @@ aside_one {rows} {aside} {i} {rest} {s} t z o =
     plain : {n m : ℕ} → n ≡ suc m → m ≡ 0 → n ≤ 1
     plain e z = omega arith
 
--- two rows are different
-pub others_differ : {aside i rest j : ℕ} → Taken aside i rest → row_of rest j ≡ 1 → i ≢ j
-others_differ {rest = rest} t e q = absurd (omega (arith, t.gone, ap (row_of rest) q ∙ e))
-
 -- rows i and j are, and no others
 pub aside_two : {rows aside i rest j last s : ℕ} → Taken aside i rest → Taken rest j last → last ≡ 0
     → Mends (λ r. (r ≢ i) × (r ≢ j)) rows s → Candidate rows aside s
@@ -228,12 +214,6 @@ aside_two {rows} {aside} {i} {rest} {j} {last} {s} t u z o =
     most e f z = omega arith
 
 module _ {aside i rest j last k left : ℕ} (t : Taken aside i rest) (u : Taken rest j last) (v : Taken last k left) where
-  pub i_not_k : i ≢ k
-  i_not_k q = absurd (omega (arith, sym (ap (row_of last) q) ∙ u.same i t.below (others_differ t u.here), t.gone, v.here))
-
-  pub j_not_k : j ≢ k
-  j_not_k = others_differ u v.here
-
   -- rows i, j and k are, and no others
   pub aside_three : {rows s : ℕ} → left ≡ 0 → Mends (λ r. (r ≢ i) × (r ≢ j) × (r ≢ k)) rows s → Candidate rows aside s
   aside_three {rows} {s} z o =
@@ -255,13 +235,8 @@ module _ {aside i rest j last k left : ℕ} (t : Taken aside i rest) (u : Taken 
       most e f g z = omega arith
 
   -- more are
-  pub aside_more : {rows : ℕ} → left < 2 ^ 64 → left ≢ 0 → (y : ℕ) → Agrees rows aside y → ⊥
-  aside_more {rows} h ne y a = go (eq-zero-or-pos (sum_to 8 (row_of left)))
+  pub aside_more : {rows m rest : ℕ} → Taken left m rest → (y : ℕ) → Agrees rows aside y → ⊥
+  aside_more {rows} w y a = four (sum_to 8 (wrong rows aside y)) (sum_to 8 (row_of aside)) a.few t.sum u.sum v.sum w.sum
     where
-      four : (w n : ℕ) {m l d : ℕ} → 2 * w + n ≤ 3 → n ≡ suc m → m ≡ suc l → l ≡ suc d → 0 < d → ⊥
-      four w n few e f g l = omega arith
-
-      go : (sum_to 8 (row_of left) ≡ 0) ⊎ (0 < sum_to 8 (row_of left)) → ⊥
-      go (inl z) =
-          ne (same_word 8 left 0 h (lit< tt) (λ r l. sum_zero 8 (row_of left) z r l ∙ sym (no_rows 0 r refl)))
-      go (inr l) = four (sum_to 8 (wrong rows aside y)) (sum_to 8 (row_of aside)) a.few t.sum u.sum v.sum l
+      four : (w n : ℕ) {m l d e : ℕ} → 2 * w + n ≤ 3 → n ≡ suc m → m ≡ suc l → l ≡ suc d → d ≡ suc e → ⊥
+      four w n few e f g h = omega arith

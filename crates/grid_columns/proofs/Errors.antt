@@ -147,9 +147,6 @@ parts_lt i h = ltb→lt (parts_of i) 16 (at_below 8 (λ i. ltb (parts_of i) 16) 
 row_back : (j : ℕ) → j < 8 → get_or rows_by_halves (parts_of j / 2) 0 ≡ j
 row_back = same_below 8 (λ j. get_or rows_by_halves (parts_of j / 2) 0) (λ j. j) tt
 
-pub row_lt : (n : ℕ) → n < 8 → get_or rows_by_halves n 0 < 8
-row_lt n h = ltb→lt (get_or rows_by_halves n 0) 8 (at_below 8 (λ n. ltb (get_or rows_by_halves n 0) 8) tt n h)
-
 -- no two rows have the same
 pub parts_apart : (i j : ℕ) → i < 8 → j < 8 → i ≢ j → 0 < bit_xor (parts_of i) (parts_of j)
 parts_apart i j hi hj ne = go (bit_xor (parts_of i) (parts_of j)) refl
@@ -432,22 +429,22 @@ module _ (rows i j k at error : ℕ) (hr : rows < 2 ^ 64) (hi : i < 8) (hj : j <
           ap₂ (λ (x e : ℕ). bit_xor (bit_xor x (e * 2 ^ (8 * i))) (e * 2 ^ (8 * k))) even_apart (cases.1 q)
           ∙ without_k y (b * 2 ^ (8 * i)) (g * 2 ^ (8 * i)) (b * 2 ^ (8 * j)) (g * 2 ^ (8 * k))
 
-    pub three_by_j : i ≢ k → bit (bit_xor (parts_of i) (parts_of j)) at ≡ 1 → (s : ℕ)
+    pub three_by_j : i ≢ k → own ≡ 1 → (s : ℕ)
         → Paired (bit_xor (bit_xor (evened rows i) (error * 2 ^ (8 * i))) (error * 2 ^ (8 * j))) i k s
         → Mends (λ r. (r ≢ i) × (r ≢ j) × (r ≢ k)) rows s
     three_by_j ne q s made = record {
       kept = λ r h (m, n, o). made.kept r h (m, o) ∙ keeps_both j hj r h m n;
       right = λ y hy p keeps.
           let t : ThreeRows rows y i j k = three_rows rows y i j k hr hy hi hj hk keeps in
-          made.right ne y t.more.more.a hy p t.more.more.byte (left_k y hy p t (sym (bit-xor (parts_of i) (parts_of j) at) ∙ q));
+          made.right ne y t.more.more.a hy p t.more.more.byte (left_k y hy p t q);
     }
 
-    pub three_by_k : i ≢ j → bit (bit_xor (parts_of i) (parts_of j)) at ≡ 0 → (s : ℕ)
+    pub three_by_k : i ≢ j → own ≡ 0 → (s : ℕ)
         → Paired (bit_xor (bit_xor (evened rows i) (error * 2 ^ (8 * i))) (error * 2 ^ (8 * k))) i j s
         → Mends (λ r. (r ≢ i) × (r ≢ j) × (r ≢ k)) rows s
     three_by_k ne q s made = record {
       kept = λ r h (m, n, o). made.kept r h (m, n) ∙ keeps_both k hk r h m o;
       right = λ y hy p keeps.
           let t : ThreeRows rows y i j k = three_rows rows y i j k hr hy hi hj hk keeps in
-          made.right ne y t.more.a hy p t.more.byte (left_j y hy p t (sym (bit-xor (parts_of i) (parts_of j) at) ∙ q));
+          made.right ne y t.more.a hy p t.more.byte (left_j y hy p t q);
     }

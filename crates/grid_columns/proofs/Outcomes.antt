@@ -1,5 +1,6 @@
 -- What specs/Outcomes.antt says of the steps holds: two words that agree differ in at most three rows, so that each column is the same.
 -- Assumes nothing.
+use Rattle.std.specs.Prelude.{None, Option, Some}
 use mathlib.Core.Path.{◌≡◌, refl, sym, ap, ap₂, ◌∙◌}
 use mathlib.Core.Logic.{◌⊎◌, inl, inr}
 use mathlib.Core.Bool.{Bool, true, false}
@@ -18,8 +19,6 @@ use Rattle.codes.proofs.Address.{distance4}
 use Rattle.grid_code.specs.Equations.{in_column}
 use Rattle.grid_code.specs.Sides.{col_entries, row_of}
 use Rattle.grid_code.proofs.Codeword.{eighth}
-use Rattle.grid_columns.specs.declared.Solution.{Solution}
-use Rattle.grid_columns.specs.declared.Solution.TheVariants.{Found, None}
 use Rattle.grid_columns.specs.Columns.{Held, wrong, Agrees, Solves}
 use Rattle.grid_columns.specs.Outcomes.{OneOutcome}
 
@@ -89,10 +88,10 @@ module _ (rows aside y z : ℕ) (p : Agrees rows aside y) (q : Agrees rows aside
       eq_of_bits 64 y z p.fits q.fits
       (λ i l. let (e, hr, hc) = eighth i l in sym (ap (bit y) e) ∙ column_same (i % 8) hc (i / 8) hr ∙ ap (bit z) e)
 
-solves : (rows aside : ℕ) (a b : Solution) → Solves rows aside a → Solves rows aside b → a ≡ b
-solves rows aside (Found y) (Found z) p q = ap Found (one_word rows aside y z p q)
-solves rows aside (Found y) None p q = absurd (q y p)
-solves rows aside None (Found z) p q = absurd (p z q)
+solves : (rows aside : ℕ) (a b : Option ℕ) → Solves rows aside a → Solves rows aside b → a ≡ b
+solves rows aside (Some y) (Some z) p q = ap Some (one_word rows aside y z p q)
+solves rows aside (Some y) None p q = absurd (q y p)
+solves rows aside None (Some z) p q = absurd (p z q)
 solves rows aside None None p q = refl
 
 pub one_outcome : OneOutcome

@@ -1,12 +1,10 @@
 -- What a trial's step over the columns finds: the word of the column code that agrees with the rows, where there is one. Assumes nothing.
-use Rattle.std.specs.Prelude.{◌≡◌, Bool, true, false, ℕ, ◌+◌, ◌*◌, ◌^◌, ◌≤◌, ◌<◌, min}
+use Rattle.std.specs.Prelude.{◌≡◌, Bool, true, false, ℕ, ◌+◌, ◌*◌, ◌^◌, ◌≤◌, ◌<◌, min, None, Option, Some}
 use Rattle.std.specs.Int.Bits.{bit_and, differ}
 use Rattle.words.specs.Word.{combined, sum_to}
 use Rattle.codes.specs.Product.{unlike}
 use Rattle.grid_code.specs.Equations.{in_column}
 use Rattle.grid_code.specs.Sides.{col_entries, row_of}
-use Rattle.grid_columns.specs.declared.Solution.{Solution}
-use Rattle.grid_columns.specs.declared.Solution.TheVariants.{Found, None}
 
 -- each column is in the column code
 abbrev pub InColumns : ℕ → Type 0
@@ -29,10 +27,10 @@ pub record Agrees (rows aside y : ℕ) : Type 0 where
   pub few : 2 * sum_to 8 (wrong rows aside y) + sum_to 8 (row_of aside) ≤ 3
 
 -- that word, or that there is none
-abbrev pub Solves : ℕ → ℕ → Solution → Type 0
-Solves rows aside (Found y) = Agrees rows aside y
+abbrev pub Solves : ℕ → ℕ → (Option ℕ) → Type 0
+Solves rows aside (Some y) = Agrees rows aside y
 Solves rows aside None = (y : ℕ) → Agrees rows aside y → ⊥
 
 -- `solved`: the same, of the rows that have place 0 marked.
-pub record Solved (rows marks : ℕ) (r : Solution) : Type 0 where
+pub record Solved (rows marks : ℕ) (r : Option ℕ) : Type 0 where
   pub is : Solves rows (bit_and marks 0x0101_0101_0101_0101) r

@@ -1,11 +1,10 @@
 -- What the steps between the rows and the word found compute, so that their contracts can say it. No promise to a caller cites this file.
 -- Assumes nothing.
-use Rattle.std.specs.Prelude.{◌≡◌, ◌≢◌, List, [], ◌∷◌, ℕ, zero, suc, ◌*◌, ◌^◌, ◌<◌, get_or}
+use Rattle.std.specs.Prelude.{◌≡◌, ◌≢◌, List, [], ◌∷◌, ℕ, zero, suc, ◌*◌, ◌^◌, ◌<◌, get_or, None, Option, Some}
 use Rattle.std.specs.Int.Bits.{bit_xor}
+use Rattle.words.specs.Word.{sum_to}
 use Rattle.words.specs.Digits.{digits}
 use Rattle.grid_code.specs.Sides.{row_of}
-use Rattle.grid_columns.specs.declared.Solution.{Solution}
-use Rattle.grid_columns.specs.declared.Solution.TheVariants.{Found, None}
 use Rattle.grid_columns.specs.Columns.{InColumns}
 
 -- for each row, bit k where it takes part in check k; and the rows by the halves of these numbers
@@ -34,6 +33,13 @@ pub record OneByte (e r : ℕ) : Type 0 where
 -- aside has no place set but place 0 of rows
 abbrev pub Asides : ℕ → Type 0
 Asides aside = (r : ℕ) → r < 8 → row_of aside r < 2
+
+-- row i is set aside, and rest are the others
+pub record Taken (aside i rest : ℕ) : Type 0 where
+  pub here : row_of aside i ≡ 1
+  pub gone : row_of rest i ≡ 0
+  pub same : (r : ℕ) → r < 8 → r ≢ i → row_of rest r ≡ row_of aside r
+  pub sum : sum_to 8 (row_of aside) ≡ suc (sum_to 8 (row_of rest))
 
 -- y has the rows that N names as they are
 abbrev pub Keeps : (ℕ → Type 0) → ℕ → ℕ → Type 0
@@ -65,10 +71,11 @@ pub record Beside (rows i s : ℕ) : Type 0 where
 -- s is the word of the column code that has the error b added to rows i and j in `even`; and it is `even` where that is in the code
 pub record Paired (even i j s : ℕ) : Type 0 where
   pub kept : Keeps (λ r. (r ≢ i) × (r ≢ j)) even s
-  pub right : i ≢ j → (y b : ℕ) → y < 2 ^ 64 → InColumns y → b < 256 → even ≡ bit_xor y (bit_xor (b * 2 ^ (8 * i)) (b * 2 ^ (8 * j))) → s ≡ y
+  pub right : i ≢ j → (y b : ℕ) → y < 2 ^ 64 → InColumns y → b < 256 → even ≡ bit_xor y (bit_xor (b * 2 ^ (8 * i)) (b * 2 ^ (8 * j)))
+      → s ≡ y
   pub alone : InColumns even → s ≡ even
 
 -- the word, if its columns hold
-abbrev pub Tested : ℕ → Solution → Type 0
-Tested rows (Found y) = (y ≡ rows) × InColumns rows
+abbrev pub Tested : ℕ → (Option ℕ) → Type 0
+Tested rows (Some y) = (y ≡ rows) × InColumns rows
 Tested rows None = InColumns rows → ⊥

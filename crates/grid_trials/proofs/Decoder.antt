@@ -1,8 +1,10 @@
 -- Why two trials decide. What the columns give is the trial's candidate: it agrees with the repaired rows in all rows but three, so it has
 -- rows of the row code, and it is a codeword. Assumes nothing.
+use Rattle.std.specs.Prelude.{None, Option, Some}
+use Rattle.std.specs.Option.{is_some}
 use mathlib.Core.Path.{◌≡◌, refl, sym, ap, ap₂, ◌∙◌, subst}
 use mathlib.Core.Logic.{◌≢◌}
-use mathlib.Core.Bool.{Bool, true, false}
+use mathlib.Core.Bool.{true, false, false≢true}
 use mathlib.Core.List.{List, map}
 use Prim.Native.Nat.{ℕ, zero, suc, ◌+◌, ◌*◌, ◌^◌, ◌≤◌, ◌<◌, min}
 use native.Mathlib.Omega.{arith}
@@ -34,9 +36,8 @@ use Rattle.grid_rows.specs.Repair.{fixed}
 use Rattle.grid_rows.specs.Rows.{Packed, RepairedRows}
 use Rattle.grid_rows.proofs.Repair.{repair, repaired-row, repaired_below}
 use Rattle.grid_columns.specs.Columns.{InColumns, wrong, Agrees}
-use Rattle.grid_trials.specs.Steps.{Repaired, Marked, Tried, near_of, Decided, Nearby}
+use Rattle.grid_trials.specs.Steps.{Repaired, Marked, Tried, found, near_of, Decided, Nearby}
 use Rattle.grid_trials.specs.declared.Near.{Near}
-use Rattle.grid_trials.specs.declared.Near.TheVariants.{Within, Beyond}
 use Rattle.grid_trials.proofs.Aside.{odd-row}
 
 row4 : Distance4 8 (λ f. combined row_entries f ≡ 0)
@@ -88,6 +89,12 @@ columns_hold d l c h =
 
 -- ---- a trial: to agree with the rows is to be the candidate
 
+same_near : {a b : Near} → Some a ≡ Some b → a ≡ b
+same_near e = cc
+
+not_none : {X : Type 0} (n : Near) → None ≡ Some n → X
+not_none n e = let z : ◌≡◌ {A = ℕ} 0 1 = cc in absurd (omega arith)
+
 module _ (t word rows marks : ℕ) (fits : marks < 2 ^ 64) (put : Repaired word rows) (marked : Marked t word marks) where
   abbrev set_aside : ℕ
   set_aside = bit_and marks 0x0101_0101_0101_0101
@@ -132,16 +139,22 @@ module _ (t word rows marks : ℕ) (fits : marks < 2 ^ 64) (put : Repaired word 
         let e : d ≡ data_of y = decide.one_candidate t word d (data_of y) l (data_lt y) c candidate in
         omega (arith, over, ap (dist word) (is ∙ ap codeword (sym e)))
 
-    pub tried_found : Tried t word y (dist word y)
-    tried_found = record {
-      gives = λ near. (data_of y, is, record { below = data_lt y; candidate = candidate; places = ap (dist word) is; near = near });
-      none = far;
+    pub tried_far : (k : ℕ) → 7 < dist word y → Tried t word k None
+    tried_far k over = record { gives = λ near e. not_none near e; none = λ e. far over }
+
+    pub tried_near : (k : ℕ) → dist word y ≤ 7 → Tried t word k (found y (dist word y) k)
+    tried_near k close = record {
+      gives = λ near e.
+          subst (λ (n : Near). (n.trials ≡ k) × (d : ℕ) × (n.number ≡ codeword d) × Gives sides code_of_grid fixed t word d n.flips)
+          (same_near e)
+          (refl, data_of y, is, record { below = data_lt y; candidate = candidate; places = ap (dist word) is; near = close });
+      none = λ e. not_none _ (sym e);
     }
 
-  pub tried_none : (number : ℕ) → ((y : ℕ) → Agrees rows set_aside y → ⊥) → Tried t word number 64
-  tried_none number none = record {
-    gives = λ near. absurd (omega arith);
-    none = λ over d l c. absurd (none (codeword d) (agrees d l c));
+  pub tried_none : (k : ℕ) → ((y : ℕ) → Agrees rows set_aside y → ⊥) → Tried t word k None
+  tried_none k none = record {
+    gives = λ near e. not_none near e;
+    none = λ e d l c. absurd (none (codeword d) (agrees d l c));
   }
 
 -- the trials are the same where the same rows are set aside
@@ -168,12 +181,12 @@ same_trial s t word marks p q none d l c =
 
 -- ---- what is decided
 
-near_answered : (k d n : ℕ) → near_of k (answered d n) ≡ Within (codeword d) n k
+near_answered : (k d n : ℕ) → near_of k (answered d n) ≡ found (codeword d) n k
 near_answered k d zero = refl
 near_answered k d (suc n) = refl
 
 module _ (word : ℕ) where
-  given : (t k d n : ℕ) → Gives sides code_of_grid fixed t word d n → codes.Trials sides code_of_grid fixed word k → Decided word (Within (codeword d) n k)
+  given : (t k d n : ℕ) → Gives sides code_of_grid fixed t word d n → codes.Trials sides code_of_grid fixed word k → Decided word (found (codeword d) n k)
   given t k d n g reported = record {
     trials = k;
     answer =
@@ -182,51 +195,69 @@ module _ (word : ℕ) where
     reported = reported;
   }
 
-  pub first_decides : (number flips : ℕ) → Tried 2 word number flips → flips ≤ 7 → Decided word (Within number flips 1)
-  first_decides number flips h near =
-      let (d, is, g) = h.gives near in
-      subst (λ (x : ℕ). Decided word (Within x flips 1)) (sym is) (given 2 1 d flips g (one d flips g))
-
-  pub lost_decides : verdict code_of_grid word ≡ lost → GivesNone sides code_of_grid fixed 2 word → Decided word Beyond
+  pub lost_decides : verdict code_of_grid word ≡ lost → GivesNone sides code_of_grid fixed 2 word → Decided word None
   lost_decides v none = record { trials = 2; answer = sym (ap (near_of 2) v); reported = two none }
 
-  pub none_decides : word < 2 ^ 64 → GivesNone sides code_of_grid fixed 2 word → GivesNone sides code_of_grid fixed 1 word → Decided word Beyond
+  pub none_decides : word < 2 ^ 64 → GivesNone sides code_of_grid fixed 2 word → GivesNone sides code_of_grid fixed 1 word → Decided word None
   none_decides fits first second =
       lost_decides (none_lost sides code_of_grid fixed row4 col4 repair is_product 16 distance (lit< tt) word fits first second) first
 
-  pub second_decides : (number flips : ℕ) → GivesNone sides code_of_grid fixed 2 word → Tried 1 word number flips → flips ≤ 7
-      → Decided word (Within number flips 2)
-  second_decides number flips first h near =
-      let (d, is, g) = h.gives near in
-      subst (λ (x : ℕ). Decided word (Within x flips 2)) (sym is) (given 1 2 d flips g (two first))
+  -- a trial that gives a codeword gives the one that is decided
+  decides : (t k d : ℕ) (n : Near) → n.trials ≡ k → n.number ≡ codeword d → Gives sides code_of_grid fixed t word d n.flips
+      → codes.Trials sides code_of_grid fixed word k → Decided word (Some n)
+  decides t k d n made is g reported =
+      subst (Decided word) (sym (λ i. Some (record { number = is i; flips = n.flips; trials = made i }))) (given t k d n.flips g reported)
 
--- ---- trial after trial: how many were made, and whether there is one more
+  first_given : (n : Near) → Tried 2 word 1 (Some n) → Decided word (Some n)
+  first_given n h = let (made, d, is, g) = h.gives n refl in decides 2 1 d n made is g (one d n.flips g)
 
-pub data Stage (word marks any : ℕ) : ℕ → Bool → Type 0 where
-  begun : Marked 2 word marks → Stage word marks any 0 true
-  once : GivesNone sides code_of_grid fixed 2 word → marks ≡ any → Stage word marks any 1 true
-  ended : (n : ℕ) → GivesNone sides code_of_grid fixed 2 word → GivesNone sides code_of_grid fixed 1 word → Stage word marks any n false
+  -- what the first trial gives decides, ..
+  first_decides : (r : Option Near) → Tried 2 word 1 r → is_some r ≡ true → Decided word r
+  first_decides (Some n) h e = first_given n h
+  first_decides None h e = absurd (false≢true e)
 
--- a trial that gives a codeword decides, ..
-pub stage_gives : (word marks any made number flips : ℕ) → Marked 1 word any → Stage word marks any made true
-    → ((t : ℕ) → Marked t word marks → Tried t word number flips) → flips ≤ 7 → Decided word (Within number flips (made + 1))
-stage_gives word marks any made number flips ones (begun twos) by near = first_decides word number flips (by 2 twos) near
-stage_gives word marks any made number flips ones (once none same) by near =
-    second_decides word number flips none (by 1 (subst (Marked 1 word) (sym same) ones)) near
+  -- .. and so does that it gives none, where the second sets the same rows aside
+  first_alone : (r : Option Near) (marks : ℕ) → word < 2 ^ 64 → Marked 2 word marks → Marked 1 word marks → Tried 2 word 1 r → Decided word r
+  first_alone (Some n) marks fits twos ones h = first_given n h
+  first_alone None marks fits twos ones h = none_decides fits (h.none refl) (same_trial 2 1 word marks twos ones (h.none refl))
 
--- .. and where it gives none the next one sets aside the rows that need any flip, if they are others
-pub stage_next : (word marks any made number flips : ℕ) → Marked 1 word any → Stage word marks any made true
-    → ((t : ℕ) → Marked t word marks → Tried t word number flips) → 7 < flips → (b : Bool) → (b ≡ true → marks ≢ any)
-    → (b ≡ false → marks ≡ any) → Stage word any any (made + 1) b
-stage_next word marks any made number flips ones (begun twos) by far true other same = once ((by 2 twos).none far) refl
-stage_next word marks any made number flips ones (begun twos) by far false other same =
-    ended 1 ((by 2 twos).none far) (same_trial 2 1 word any (subst (Marked 2 word) (same refl) twos) ones ((by 2 twos).none far))
-stage_next word marks any made number flips ones (once none all) by far true other same = absurd (other refl all)
-stage_next word marks any made number flips ones (once none all) by far false other same =
-    ended 2 none ((by 1 (subst (Marked 1 word) (sym all) ones)).none far)
+  first_none : (r : Option Near) → Tried 2 word 1 r → is_some r ≡ false → GivesNone sides code_of_grid fixed 2 word
+  first_none (Some n) h e = absurd (false≢true (sym e))
+  first_none None h e = h.none refl
 
-pub stage_ends : (word marks any made : ℕ) → word < 2 ^ 64 → Stage word marks any made false → Decided word Beyond
-stage_ends word marks any made fits (ended n first second) = none_decides word fits first second
+  -- else the second one decides
+  second_decides : (r : Option Near) → word < 2 ^ 64 → GivesNone sides code_of_grid fixed 2 word → Tried 1 word 2 r → Decided word r
+  second_decides (Some n) fits none h = let (made, d, is, g) = h.gives n refl in decides 1 2 d n made is g (two none)
+  second_decides None fits none h = none_decides fits none (h.none refl)
+
+-- ---- trial after trial: which one is made, and which rows it sets aside
+
+pub data Stage (word any : ℕ) : ℕ → ℕ → Type 0 where
+  first : (marks : ℕ) → Marked 2 word marks → Stage word any 1 marks
+  second : GivesNone sides code_of_grid fixed 2 word → Stage word any 2 any
+
+-- the first sets the rows aside that needed two flips
+pub begun : (word any marks : ℕ) → Marked 2 word marks → Stage word any 1 marks
+begun word any marks twos = first marks twos
+
+module _ (word any : ℕ) (fits : word < 2 ^ 64) (ones : Marked 1 word any) where
+  -- a trial that gives a codeword decides, ..
+  pub stage_gives : (made marks : ℕ) (r : Option Near) → Stage word any made marks → ((t : ℕ) → Marked t word marks → Tried t word made r)
+      → is_some r ≡ true → Decided word r
+  stage_gives made marks r (first m twos) by e = first_decides word r (by 2 twos) e
+  stage_gives made marks r (second none) by e = second_decides word r fits none (by 1 ones)
+
+  -- .. and so does one that sets aside all that the next could, ..
+  pub stage_ends : (made marks : ℕ) (r : Option Near) → Stage word any made marks → ((t : ℕ) → Marked t word marks → Tried t word made r)
+      → marks ≡ any → Decided word r
+  stage_ends made marks r (first m twos) by e = first_alone word r marks fits twos (subst (Marked 1 word) (sym e) ones) (by 2 twos)
+  stage_ends made marks r (second none) by e = second_decides word r fits none (by 1 ones)
+
+  -- .. else there is the next
+  pub stage_next : (made marks : ℕ) (r : Option Near) → Stage word any made marks → ((t : ℕ) → Marked t word marks → Tried t word made r)
+      → is_some r ≡ false → marks ≢ any → Stage word any (made + 1) any
+  stage_next made marks r (first m twos) by e ne = second (first_none word r (by 2 twos) e)
+  stage_next made marks r (second none) by e ne = absurd (ne refl)
 
 -- ---- from the rows as read
 
@@ -252,7 +283,7 @@ module _ (rows : List ℕ) (eight : length rows ≡ 8) (small : Below 8 rows) (w
       subst (λ (w : ℕ). w < 2 ^ 64) (sym (packed.answer ∙ ap (joined 8) made.answer))
       (joined_lt 8 8 (map fixed rows) length_put (repaired_below rows small))
 
-  to_rows : (r : Near) → Decided word r → Nearby rows r
+  to_rows : (r : Option Near) → Decided word r → Nearby rows r
   to_rows r d = record { is = subst (λ (w : ℕ). Decided w r) is.answer d }
 
   -- in how many places the repaired rows differ from the rows as read
@@ -262,17 +293,17 @@ module _ (rows : List ℕ) (eight : length rows ≡ 8) (small : Below 8 rows) (w
       ∙ sum_eq 8 (λ r. dist (row_of word r) (row_of x r)) (λ r. dist (row_of word r) (fixed (row_of word r))) (λ r h. ap (dist (row_of word r)) (is_repaired r h))
 
   -- they need over seven flips
-  pub beyond : 7 < dist word x → Nearby rows Beyond
+  pub beyond : 7 < dist word x → Nearby rows None
   beyond far =
       let all : (d : ℕ) → d < 2 ^ 16 → 7 < dist word (codeword d) =
       too_far sides code_of_grid fixed row4 col4 repair is_product word word_lt (subst (λ (n : ℕ). 7 < n) apart far) in
-      to_rows Beyond (lost_decides word (none_near code_of_grid word all) (λ d l c. all d l))
+      to_rows None (lost_decides word (none_near code_of_grid word all) (λ d l c. all d l))
 
   -- their columns hold
-  pub within : dist word x ≤ 7 → InColumns x → Nearby rows (Within x (dist word x) 1)
+  pub within : dist word x ≤ 7 → InColumns x → Nearby rows (found x (dist word x) 1)
   within near cols =
-      to_rows (Within x (dist word x) 1)
-      (subst (λ (y : ℕ). Decided word (Within y (dist word y) 1)) (sym e)
+      to_rows (found x (dist word x) 1)
+      (subst (λ (y : ℕ). Decided word (found y (dist word y) 1)) (sym e)
       (given word 2 1 (data_of x) (dist word (codeword (data_of x))) gives (one (data_of x) (dist word (codeword (data_of x))) gives)))
     where
       none : sum_to 8 (λ r. unlike (fixed (row_of word r)) (row_of x r)) ≡ 0
@@ -288,5 +319,5 @@ module _ (rows : List ℕ) (eight : length rows ≡ 8) (small : Below 8 rows) (w
           repaired_gives sides code_of_grid fixed row4 col4 repair is_product word (data_of x) word_lt (data_lt x)
           (λ r h. ap (λ (g : ℕ). row_of g r) (sym e) ∙ is_repaired r h) (subst (λ (g : ℕ). dist word g ≤ 7) e near)
 
-  pub decided : (r : Near) → (Repaired word x → Decided word r) → Nearby rows r
+  pub decided : (r : Option Near) → (Repaired word x → Decided word r) → Nearby rows r
   decided r by = to_rows r (by is_repaired)

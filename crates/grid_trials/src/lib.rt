@@ -9,18 +9,12 @@
 ghost use Rattle.std.specs.Prelude.{ℕ};
 ghost use Rattle.grid_trials.specs.Steps.{Needing, Repaired, Marked, Tried, Decided, Nearby};
 
-use grid_columns::Solution;
-
-// The codeword within the radius, in how many places the word read differs from it, and how many trials were made; or that every one is
-// further off, which takes two.
-#[derive(Drop)]
-pub enum Near {
-    Within {
-        number: u64,
-        flips: u32,
-        trials: u32,
-    },
-    Beyond,
+// The codeword within the radius, in how many places the word read differs from it, and how many trials were made.
+#[derive(Clone, Copy, Debug, PartialEq, Eq)]
+pub struct Near {
+    pub number: u64,
+    pub flips: u32,
+    pub trials: u32,
 }
 
 // Place 0 of each row that needed flips, and of each that needed two.
@@ -28,13 +22,6 @@ pub enum Near {
 struct Marks {
     any: u64,
     two: u64,
-}
-
-// What a trial gives: a codeword, and in how many places the word read differs from it. Where it gives none, the flips are over the radius.
-#[derive(Drop)]
-struct Given {
-    number: u64,
-    flips: u32,
 }
 
 // Which rows needed flips, from the places in which they differ from the repaired rows, all eight at a time. Where a row needed two, one of
@@ -51,66 +38,59 @@ fn needing(flips: u64) -> Marks
     }
 }
 
-// The trial in which the rows with place 0 marked are set aside: its candidate, with the places counted. `rows` are the repaired rows of the
-// word read.
-fn trial(word: u64, rows: u64, marks: u64) -> Given
-    ensures { (t : ℕ) → Repaired word rows → Marked t word marks → Tried t word result.number result.flips }
+// The trial in which the rows with place 0 marked are set aside: its candidate, where that is within the radius. `rows` are the repaired
+// rows of the word read, and `trials` is how many trials this one makes.
+fn trial(word: u64, rows: u64, marks: u64, trials: u32) -> Option<Near>
+    ensures { (t : ℕ) → Repaired word rows → Marked t word marks → Tried t word trials result }
 {
-    let Solution::Found(number) = grid_columns::solved(rows, marks) else {
-        return Given {
-            number: rows,
-            flips: 64,
-        };
-    };
-    Given {
-        number,
-        flips: u64::count_ones(word ^ number),
+    let number = grid_columns::solved(rows, marks)?;
+    let flips = (word ^ number).count_ones();
+    if flips > grid_code::RADIUS {
+        return None;
     }
+    Some(Near {
+        number,
+        flips,
+        trials,
+    })
 }
 
 // What the first trial gives, and what the second does where it gives none: the first sets the rows aside that needed two flips, the second
-// those that needed one or two. Where none needed one flip, both are the same. It is a loop so that the compiler lays the trial in its
-// place: it would not where there are two calls.
-fn trials(word: u64, rows: u64) -> Near
+// those that needed one or two. Where none needed one flip, both are the same. `made` is what is reported. Two calls one behind the other
+// miss the bar of a clean grid, 53 of 50: only in a loop the compiler lays the trial in its place.
+fn trials(word: u64, rows: u64) -> Option<Near>
     ensures { Repaired word rows → Decided word result }
 {
     let marks = needing(word ^ rows);
-    let any = marks.any;
     let mut aside = marks.two;
-    let mut made: u32 = 0;
-    let mut more = true;
-    while more {
-        made += 1;
-        let given = trial(word, rows, aside);
-        if given.flips <= grid_code::RADIUS {
-            return Near::Within {
-                number: given.number,
-                flips: given.flips,
-                trials: made,
-            };
+    let mut made: u32 = 1;
+    loop {
+        let near = trial(word, rows, aside, made);
+        if near.is_some() || aside == marks.any {
+            return near;
         }
-        more = aside != any;
-        aside = any;
+        aside = marks.any;
+        made += 1;
     }
-    Near::Beyond
 }
 
-// The codeword that is near enough to the rows as read, whatever was done to them.
-pub fn nearest(rows: [u8; 8]) -> Near
+// The codeword that is near enough to the rows as read, whatever was done to them. Where every one is further off there is none, and that
+// takes two trials.
+pub fn nearest(rows: [u8; 8]) -> Option<Near>
     ensures { Nearby rows result }
 {
     let word = grid_rows::number(rows);
     let repaired = grid_rows::number(grid_rows::repaired(rows));
-    let needed = u64::count_ones(word ^ repaired);
+    let needed = (word ^ repaired).count_ones();
     if grid_code::RADIUS < needed {
-        return Near::Beyond;
+        return None;
     }
     if grid_columns::hold(repaired) {
-        return Near::Within {
+        return Some(Near {
             number: repaired,
             flips: needed,
             trials: 1,
-        };
+        });
     }
     trials(word, repaired)
 }

@@ -1,5 +1,5 @@
 -- What the exports answer and leave. Assumes nothing.
-use Rattle.std.specs.Prelude.{◌≡◌, List, map, ℕ, ◌+◌, ◌*◌, length}
+use Rattle.std.specs.Prelude.{◌≡◌, List, map, ℕ, ◌+◌, ◌*◌, length, Result, Ok, Err}
 use Rattle.words.specs.Digits.{joined}
 use Rattle.refusals.specs.declared.Refusal.TheVariants.{LostGrid}
 use Rattle.refusals.specs.Reply.{Reply, gives, refused, numbered, number_of, number_in}
@@ -12,17 +12,23 @@ use Rattle.grid_code.specs.Verdict.{Verdict, clean, blank, mended, lost, grid_ve
 use Rattle.grid_rows.specs.Repair.{fixed}
 use Rattle.grid.specs.Answer.{encode_means}
 use Rattle.grid.specs.Calls.{Encoded}
-use Rattle.grid.specs.declared.Encoding.{Encoding}
 use Rattle.block.specs.Answer.{means}
 use Rattle.block.specs.Calls.{Scrubbed}
 use Rattle.block.specs.declared.Scrub.{Scrub}
+use Rattle.grid.specs.declared.Grid.{Grid}
+use Rattle.refusals.specs.declared.Refusal.{Refusal}
+
+-- the number of a grid that is given, and 0 where there is none
+abbrev pub grid_in : Result Grid Refusal → ℕ
+grid_in (Ok g) = joined 8 g.rows
+grid_in (Err why) = 0
 
 -- What `Grid::encode` answers, with its reply as one number, and the number of its grid.
 pub record GridEncoded (value r grid : ℕ) : Type 0 where
-  pub encoding : Encoding
+  pub encoding : Result Grid Refusal
   pub is : Encoded value encoding
-  pub number : r ≡ number_in (encode_means encoding.answer encoding.grid.rows)
-  pub written : grid ≡ joined 8 encoding.grid.rows
+  pub number : r ≡ number_in (encode_means encoding)
+  pub written : grid ≡ grid_in encoding
 
 -- a verdict and the trials as one number: the data, the flips from bit 16 on, the number of a refusal from bit 24 on, the trials from bit 28
 -- on, and bit 32 where the grid is blank

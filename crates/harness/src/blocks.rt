@@ -1,22 +1,22 @@
 // The block's calls, with their answers as numbers.
-ghost use Rattle.std.specs.Prelude.{◌≡◌};
+ghost use Rattle.std.specs.Prelude.{◌≡◌, Result, ⊤};
 ghost use Rattle.refusals.specs.Reply.{number_in};
 ghost use Rattle.block_code.specs.Code.{code_of_block};
 ghost use Rattle.block.specs.Answer.{encode_means};
 ghost use Rattle.block.specs.Calls.{Encoded};
-ghost use Rattle.block.specs.declared.EncodeAnswer.{EncodeAnswer};
+ghost use Rattle.refusals.specs.declared.Refusal.{Refusal};
 ghost use Rattle.harness.specs.Exports.{BlockScrubbed};
 
-use block::{Block, BlockAnswer, BlockVerdict, EncodeAnswer};
+use block::{Block, BlockVerdict};
 
 // The block of 32 data words, into 38 words. The number of the refusal is returned, and 0 where there is none.
 #[unsafe(no_mangle)]
 pub extern "C" fn block_encode(values: &[u16], words: &mut [u16]) -> u32
-    ensures { (a : EncodeAnswer) × Encoded values.now words.old a words.new × (result ≡ number_in (encode_means a words.new)) }
+    ensures { (a : Result ⊤ Refusal) × Encoded values.now words.old a words.new × (result ≡ number_in (encode_means a words.new)) }
 {
     match Block::encode(values, words) {
-        EncodeAnswer::Done => 0,
-        EncodeAnswer::Refused(why) => why.number(),
+        Ok(()) => 0,
+        Err(why) => why.number(),
     }
 }
 
@@ -26,15 +26,12 @@ pub extern "C" fn block_scrub(words: &mut [u16], pattern: &mut [u16; 38]) -> u32
     ensures { BlockScrubbed words.old result words.new pattern.new }
 {
     let scrub = Block::scrub(words);
-    let p = scrub.pattern;
-    *pattern = p;
-    let answer = scrub.answer;
-    match answer {
-        BlockAnswer::Done(verdict) => match verdict {
-            BlockVerdict::Clean => 0,
-            BlockVerdict::Mended { flips } => flips,
-        },
-        BlockAnswer::Refused(why) => why.number() * 256,
+    let flips = scrub.pattern;
+    *pattern = flips;
+    match scrub.answer {
+        Ok(BlockVerdict::Clean) => 0,
+        Ok(BlockVerdict::Mended { flips }) => flips,
+        Err(why) => why.number() * 256,
     }
 }
 

@@ -7,7 +7,7 @@ ghost use Rattle.grid_code.specs.Code.{code_of_grid};
 ghost use Rattle.grid.specs.Answer.{verdict_of};
 ghost use Rattle.harness.specs.Exports.{GridEncoded, packed, Decoding};
 
-use grid::{EncodeAnswer, Grid, Verdict};
+use grid::{Grid, Verdict};
 use refusals::Refusal;
 
 mod blocks;
@@ -17,13 +17,15 @@ mod blocks;
 pub extern "C" fn grid_encode(value: u16, grid: &mut u64) -> u32
     ensures { GridEncoded value result grid.new }
 {
-    let encoding = Grid::encode(value);
-    let encoded = encoding.grid;
-    *grid = encoded.number();
-    let answer = encoding.answer;
-    match answer {
-        EncodeAnswer::Done => 0,
-        EncodeAnswer::Refused(why) => why.number(),
+    match Grid::encode(value) {
+        Ok(encoded) => {
+            *grid = u64::from(encoded);
+            0
+        }
+        Err(why) => {
+            *grid = 0;
+            why.number()
+        }
     }
 }
 
@@ -32,7 +34,7 @@ pub extern "C" fn grid_encode(value: u16, grid: &mut u64) -> u32
 pub extern "C" fn grid_there_and_back(w: u64) -> u64
     ensures { result ≡ w }
 {
-    Grid::of_number(w).number()
+    u64::from(Grid::from(w))
 }
 
 // Row `r` of the grid with the number `w`, and 0 where there is no such row.
@@ -40,7 +42,7 @@ pub extern "C" fn grid_there_and_back(w: u64) -> u64
 pub extern "C" fn grid_row(w: u64, r: u64) -> u8
     ensures { result ≡ get_or (digits 8 8 w) r 0 }
 {
-    let rows = Grid::of_number(w).rows;
+    let rows = Grid::from(w).rows;
     if r < 8 { rows[r as usize] } else { 0 }
 }
 
@@ -70,17 +72,17 @@ pub extern "C" fn grid_distance() -> u32
 fn packed(verdict: Verdict, trials: u32) -> u64
     ensures { result ≡ packed (verdict_of verdict) trials }
 {
-    let made = (trials as u64) * 0x1000_0000;
+    let made = u64::from(trials) * 0x1000_0000;
     match verdict {
-        Verdict::Clean(data) => (data as u64) + made,
-        Verdict::Blank { flips } => (flips as u64) * 65536 + 0x0001_0000_0000 + made,
-        Verdict::Mended { data, flips } => (data as u64) + (flips as u64) * 65536 + made,
-        Verdict::Lost => (Refusal::LostGrid.number() as u64) * 0x0100_0000 + made,
+        Verdict::Clean(data) => u64::from(data) + made,
+        Verdict::Blank { flips } => u64::from(flips) * 65536 + 0x0001_0000_0000 + made,
+        Verdict::Mended { data, flips } => u64::from(data) + u64::from(flips) * 65536 + made,
+        Verdict::Lost => u64::from(Refusal::LostGrid.number()) * 0x0100_0000 + made,
     }
 }
 
 // The answers on the grids with the numbers `words`: each verdict as one number, and beside it the number of the grid and the pattern. Four
-// slices of one length, or nothing is done.
+// slices of one length, as C lends them, or nothing is done.
 #[unsafe(no_mangle)]
 pub extern "C" fn grid_decode(
     words: &[u64],
@@ -100,14 +102,10 @@ pub extern "C" fn grid_decode(
     if patterns.len() != n {
         return;
     }
-    let mut i: usize = 0;
-    while i < n {
-        let answer = Grid::of_number(words[i]).decode();
-        let grid = answer.grid;
-        let verdict = answer.verdict;
-        repaired[i] = grid.number();
+    for i in 0..n {
+        let answer = Grid::from(words[i]).decode();
+        repaired[i] = u64::from(answer.grid);
         patterns[i] = answer.pattern;
-        verdicts[i] = packed(verdict, answer.trials);
-        i += 1;
+        verdicts[i] = packed(answer.verdict, answer.trials);
     }
 }

@@ -1,22 +1,18 @@
 -- What the exports answer, as one number each, and what they leave. Assumes nothing.
-use Rattle.std.specs.Prelude.{◌≡◌, ◌≢◌, List, [], ◌∷◌, ℕ, ◌+◌, ◌*◌, leb, length}
+use Rattle.std.specs.Prelude.{◌≡◌, ◌≢◌, List, [], ◌∷◌, ℕ, ◌+◌, ◌*◌, leb, length, None, Option, Result, Some}
 use Rattle.words.specs.Word.{choose}
 use Rattle.words.specs.Bytes.{laid}
-use Rattle.refusals.specs.declared.Place.{Place}
-use Rattle.refusals.specs.declared.Place.TheVariants.{At, Nowhere}
 use Rattle.refusals.specs.Reply.{Number, number_of, place_of, Reply, gives, refused}
-use Rattle.image.specs.declared.CheckAnswer.{CheckAnswer}
 use Rattle.image.specs.Answer.{means as check_means}
 use Rattle.card_scrub.specs.declared.Tallies.{Tallies}
-use Rattle.card_scrub.specs.declared.ScrubAnswer.{ScrubAnswer}
 use Rattle.card_scrub.specs.Answer.{means as scrub_means}
 use Rattle.card_scrub.specs.Calls.{Scrubbed}
-use Rattle.card_write.specs.declared.WriteAnswer.{WriteAnswer}
 use Rattle.card_write.specs.Answer.{means as write_means}
-use Rattle.card_read.specs.declared.ReadAnswer.{ReadAnswer}
 use Rattle.card_read.specs.Answer.{means as read_means}
-use Rattle.lines.specs.declared.LinesAnswer.{LinesAnswer}
 use Rattle.lines.specs.Answer.{means as lines_means}
+use Rattle.card_read.specs.declared.Lengths.{Lengths}
+use Rattle.image.specs.declared.Counts.{Counts}
+use Rattle.refusals.specs.declared.Refusal.{Refusal}
 
 -- a number in 16 bits; one that does not fit is shown as 65,535, which no right answer has
 abbrev pub short : ℕ → ℕ
@@ -27,9 +23,9 @@ abbrev pub packed : ℕ → ℕ → ℕ → ℕ
 packed number low high = number * 4294967296 + short high * 65536 + short low
 
 -- a number of the table, and its place, if there is one
-abbrev pub place_shown : Place → ℕ
-place_shown (At at) = at
-place_shown Nowhere = 0
+abbrev pub place_shown : (Option ℕ) → ℕ
+place_shown (Some at) = at
+place_shown None = 0
 
 abbrev pub number_shown : Number → ℕ
 number_shown k = packed (number_of k) (place_shown (place_of k)) 0
@@ -40,23 +36,23 @@ shown given (gives a) = given a
 shown given (refused k) = number_shown k
 
 -- What each gives: the grids and the blocks; ..
-abbrev pub check_shown : CheckAnswer → ℕ
+abbrev pub check_shown : (Result Counts Refusal) → ℕ
 check_shown a = shown (λ v. packed 0 v.grids v.blocks) (check_means a)
 
 -- .. nothing, since the tallies stand elsewhere; ..
-abbrev pub scrub_shown : ScrubAnswer → ℕ
+abbrev pub scrub_shown : (Result Tallies Refusal) → ℕ
 scrub_shown a = shown (λ t. packed 0 0 0) (scrub_means a)
 
 -- .. the bytes written; ..
-abbrev pub write_shown : WriteAnswer → ℕ
+abbrev pub write_shown : (Result ℕ Refusal) → ℕ
 write_shown a = shown (λ k. packed 0 k 0) (write_means a)
 
 -- .. the title's length and the grids; ..
-abbrev pub read_shown : ReadAnswer → ℕ
+abbrev pub read_shown : (Result Lengths Refusal) → ℕ
 read_shown a = shown (λ v. packed 0 v.title v.grids) (read_means a)
 
 -- .. the bytes of text.
-abbrev pub lines_shown : LinesAnswer → ℕ
+abbrev pub lines_shown : (Result ℕ Refusal) → ℕ
 lines_shown a = shown (λ n. packed 0 n 0) (lines_means a)
 
 -- the six numbers of the grids and the five of the blocks, where tallies are given, ..
@@ -74,7 +70,8 @@ pattern_shown (refused k) before = before
 
 -- With eleven places for the numbers: what `card::scrub` gives. Else 255, and nothing is written.
 pub data Exported (image tallies : List ℕ) (pattern r : ℕ) (image' tallies' : List ℕ) (pattern' : ℕ) : Type 0 where
-  scrubs : length tallies ≡ 11 → (a : ScrubAnswer) → Scrubbed image a image' → r ≡ scrub_shown a → tallies' ≡ tallied (scrub_means a) tallies
-      → pattern' ≡ pattern_shown (scrub_means a) pattern → Exported image tallies pattern r image' tallies' pattern'
+  scrubs : length tallies ≡ 11 → (a : Result Tallies Refusal) → Scrubbed image a image' → r ≡ scrub_shown a
+      → tallies' ≡ tallied (scrub_means a) tallies → pattern' ≡ pattern_shown (scrub_means a) pattern
+      → Exported image tallies pattern r image' tallies' pattern'
   stays : length tallies ≢ 11 → r ≡ packed 255 0 0 → image' ≡ image → tallies' ≡ tallies → pattern' ≡ pattern
       → Exported image tallies pattern r image' tallies' pattern'

@@ -2,21 +2,19 @@
 // that the archives of the others stay small.
 #![tactic(auto)]
 
-ghost use Rattle.std.specs.Prelude.{◌≡◌, ◌≤◌};
+ghost use Rattle.std.specs.Prelude.{◌≡◌, ℕ, ◌≤◌, Result};
 ghost use Rattle.refusals.specs.Reply.{numbered};
-ghost use Rattle.image.specs.declared.CheckAnswer.{CheckAnswer};
+ghost use Rattle.refusals.specs.declared.Refusal.{Refusal};
+ghost use Rattle.image.specs.declared.Counts.{Counts};
 ghost use Rattle.image.specs.Calls.{Checked};
-ghost use Rattle.card_write.specs.declared.WriteAnswer.{WriteAnswer};
 ghost use Rattle.card_write.specs.Calls.{Wrote};
-ghost use Rattle.card_read.specs.declared.ReadAnswer.{ReadAnswer};
+ghost use Rattle.card_read.specs.declared.Lengths.{Lengths};
 ghost use Rattle.card_read.specs.Calls.{Read};
-ghost use Rattle.lines.specs.declared.LinesAnswer.{LinesAnswer};
 ghost use Rattle.lines.specs.Calls.{Printed};
 ghost use Rattle.harness_card.specs.Exports.{short, packed, number_shown, check_shown, write_shown, read_shown, lines_shown, Exported};
 
-use card::{Place, ReadAnswer, Refusal, ScrubAnswer, WriteAnswer};
-use image::CheckAnswer;
-use lines::LinesAnswer;
+use card::{Lengths, Refusal, Tallies};
+use image::Counts;
 
 // A number in 16 bits. One that does not fit is 65,535, which no right answer has.
 fn short(n: usize) -> u64
@@ -32,7 +30,7 @@ fn short(n: usize) -> u64
 fn packed(number: u32, low: usize, high: usize) -> u64
     ensures { result ≡ packed number low high }
 {
-    (number as u64) * 4294967296 + short(high) * 65536 + short(low)
+    u64::from(number) * 4294967296 + short(high) * 65536 + short(low)
 }
 
 // The number and the place of a refusal.
@@ -40,19 +38,19 @@ fn refused(why: Refusal) -> u64
     ensures { result ≡ number_shown (numbered why) }
 {
     match why.place() {
-        Place::At(at) => packed(why.number(), at, 0),
-        Place::Nowhere => packed(why.number(), 0, 0),
+        Some(at) => packed(why.number(), at, 0),
+        None => packed(why.number(), 0, 0),
     }
 }
 
 // The grids, and the blocks from bit 16 on.
 #[unsafe(no_mangle)]
 pub extern "C" fn image_check(image: &[u8]) -> u64
-    ensures { (a : CheckAnswer) × Checked image.now a × (result ≡ check_shown a) }
+    ensures { (a : Result Counts Refusal) × Checked image.now a × (result ≡ check_shown a) }
 {
     match image::check(image) {
-        CheckAnswer::Done { grids, blocks } => packed(0, grids, blocks),
-        CheckAnswer::Refused(why) => refused(why),
+        Ok(Counts { grids, blocks }) => packed(0, grids, blocks),
+        Err(why) => refused(why),
     }
 }
 
@@ -66,35 +64,36 @@ pub extern "C" fn image_scrub(image: &mut [u8], tallies: &mut [u32], pattern: &m
         return packed(255, 0, 0);
     }
     match card::scrub(image) {
-        ScrubAnswer::Done(t) => {
-            let grids = t.grids;
-            let blocks = t.blocks;
-            tallies[0] = grids.grids;
-            tallies[1] = grids.clean;
-            tallies[2] = grids.blank;
-            tallies[3] = grids.mended;
-            tallies[4] = grids.lost;
-            tallies[5] = grids.flips;
-            tallies[6] = blocks.blocks;
-            tallies[7] = blocks.clean;
-            tallies[8] = blocks.mended;
-            tallies[9] = blocks.lost;
-            tallies[10] = blocks.flips;
+        Ok(t) => {
+            let Tallies { grids, blocks } = t;
+            tallies.copy_from_slice(&[
+                grids.grids,
+                grids.clean,
+                grids.blank,
+                grids.mended,
+                grids.lost,
+                grids.flips,
+                blocks.blocks,
+                blocks.clean,
+                blocks.mended,
+                blocks.lost,
+                blocks.flips,
+            ]);
             *pattern = grids.pattern;
             packed(0, 0, 0)
         }
-        ScrubAnswer::Refused(why) => refused(why),
+        Err(why) => refused(why),
     }
 }
 
 // The bytes written.
 #[unsafe(no_mangle)]
 pub extern "C" fn image_write(title: &[u8], numbers: &[u16], image: &mut [u8]) -> u64
-    ensures { (a : WriteAnswer) × Wrote title.now numbers.now image.old a image.new × (result ≡ write_shown a) }
+    ensures { (a : Result ℕ Refusal) × Wrote title.now numbers.now image.old a image.new × (result ≡ write_shown a) }
 {
     match card::write(title, numbers, image) {
-        WriteAnswer::Done(n) => packed(0, n, 0),
-        WriteAnswer::Refused(why) => refused(why),
+        Ok(n) => packed(0, n, 0),
+        Err(why) => refused(why),
     }
 }
 
@@ -106,21 +105,22 @@ pub extern "C" fn image_read(
     numbers: &mut [u16],
     flips: &mut [u8],
 ) -> u64
-    ensures { (a : ReadAnswer) × Read image.now title.old numbers.old flips.old a title.new numbers.new flips.new × (result ≡ read_shown a) }
+    ensures { (a : Result Lengths Refusal) × Read image.now title.old numbers.old flips.old a title.new numbers.new flips.new
+        × (result ≡ read_shown a) }
 {
     match card::read(image, title, numbers, flips) {
-        ReadAnswer::Done { title, grids } => packed(0, title, grids),
-        ReadAnswer::Refused(why) => refused(why),
+        Ok(Lengths { title, grids }) => packed(0, title, grids),
+        Err(why) => refused(why),
     }
 }
 
 // The bytes of text.
 #[unsafe(no_mangle)]
 pub extern "C" fn image_lines(image: &mut [u8], text: &mut [u8]) -> u64
-    ensures { (a : LinesAnswer) × Printed image.old text.old a image.new text.new × (result ≡ lines_shown a) }
+    ensures { (a : Result ℕ Refusal) × Printed image.old text.old a image.new text.new × (result ≡ lines_shown a) }
 {
     match lines::scrub(image, text) {
-        LinesAnswer::Done(n) => packed(0, n, 0),
-        LinesAnswer::Refused(why) => refused(why),
+        Ok(n) => packed(0, n, 0),
+        Err(why) => refused(why),
     }
 }

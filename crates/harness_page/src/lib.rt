@@ -4,8 +4,6 @@
 
 ghost use Rattle.harness_page.specs.Exports.{Exported};
 
-use page::PageAnswer;
-
 // A page scrubbed, with the six numbers in `tally`, which has six places, and the last mended grid's pattern in `pattern`. The number of
 // the refusal is returned, 0 where there is none, and 255 where `tally` has another length: then nothing is done.
 #[unsafe(no_mangle)]
@@ -16,16 +14,11 @@ pub extern "C" fn page_scrub(page: &mut [u64], tally: &mut [u32], pattern: &mut 
         return 255;
     }
     match page::scrub(page) {
-        PageAnswer::Done(t) => {
-            tally[0] = t.grids;
-            tally[1] = t.clean;
-            tally[2] = t.blank;
-            tally[3] = t.mended;
-            tally[4] = t.lost;
-            tally[5] = t.flips;
+        Ok(t) => {
+            tally.copy_from_slice(&[t.grids, t.clean, t.blank, t.mended, t.lost, t.flips]);
             *pattern = t.pattern;
             0
         }
-        PageAnswer::Refused(why) => why.number(),
+        Err(why) => why.number(),
     }
 }

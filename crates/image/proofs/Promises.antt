@@ -1,5 +1,6 @@
 -- The promises of an image. A card's front decides what is found, by what stands behind it; every image starts with such a front or with no
 -- title, and so is the image of a card or has a break, and what is found tells which. Assumes nothing.
+use Rattle.std.specs.Prelude.{Err, None, Option, Some}
 use mathlib.Core.Path.{◌≡◌, refl, sym, ap, ◌∙◌, subst}
 use mathlib.Core.Logic.{◌⊎◌, inl, inr}
 use mathlib.Core.List.{List, [], ◌∷◌, ◌++◌, append_assoc, append-nil}
@@ -10,10 +11,9 @@ use lib.Seq.{drop-append_seam}
 use Rattle.words.specs.Digits.{Below}
 use Rattle.words.proofs.Bytes.{below_drop}
 use Rattle.fields.specs.declared.Field.{Field}
-use Rattle.fields.specs.declared.Field.TheVariants.{Title, Grids, Block, End, Fails}
+use Rattle.fields.specs.declared.Field.TheVariants.{Title, Grids, Block, End}
 use Rattle.fields.specs.Fields.{field_of}
 use Rattle.fields.proofs.Fields.{past_end, known, found_end}
-use Rattle.image.specs.declared.CheckAnswer.TheVariants.{Refused}
 use Rattle.image.specs.Card.{Part, Card, Found, sound, broken, before, walk, under_title, card_of, head, front_of, image_of}
 use Rattle.image.specs.Answer.{means}
 use Rattle.image.specs.Promises.{Proper, Break, no_title, fails, repeated, seventeenth, behind_end, ImagePromises, OneOutcome}
@@ -31,7 +31,7 @@ all_sound : (ps : List Part) → before_all ps (sound []) ≡ sound ps
 all_sound [] = refl
 all_sound (p ∷ ps) = ap (before p) (all_sound ps)
 
-end_found : (bytes : List ℕ) → field_of (head 127 0 ++ bytes) ≡ End
+end_found : (bytes : List ℕ) → field_of (head 127 0 ++ bytes) ≡ Some End
 end_found bytes = found_end (head 127 0 ++ bytes) (stands_front 127 0 [] bytes refl)
 
 module _ (c : Card) (h : Proper c) where
@@ -109,25 +109,25 @@ module _ (s : List ℕ) (h : Below 8 s) where
       below : Below 8 rest
       below = subst (Below 8) (ap (drop place) r.is ∙ drop-append_seam (front_of c) rest) (below_drop 8 place s h)
 
-      go : (f : Field) → field_of rest ≡ f → Told s
-      go (Title n) e = inr (place, repeated c rest n r.proper r.is e)
-      go (Grids n) e = inr (place, seventeenth c rest r.proper (r.full (inl (n, e))) r.is (inl (n, e)))
-      go Block e = inr (place, seventeenth c rest r.proper (r.full (inr e)) r.is (inr e))
-      go End e =
+      go : (f : Option Field) → field_of rest ≡ f → Told s
+      go (Some (Title n)) e = inr (place, repeated c rest n r.proper r.is e)
+      go (Some (Grids n)) e = inr (place, seventeenth c rest r.proper (r.full (inl (n, e))) r.is (inl (n, e)))
+      go (Some Block) e = inr (place, seventeenth c rest r.proper (r.full (inr e)) r.is (inr e))
+      go (Some End) e =
           let st = known rest e in
           ended s r (drop 3 rest)
           (split 127 0 rest below st ∙ ap (λ (k : ℕ). head 127 0 ++ take k (drop 3 rest) ++ drop 3 rest) st.size_is)
-      go Fails e = inr (place, fails c rest r.proper r.is e)
+      go None e = inr (place, fails c rest r.proper r.is e)
 
   told : Told s
   told = go (field_of s) refl
     where
-      go : (f : Field) → field_of s ≡ f → Told s
-      go (Title n) e = fronted (title_back s h n e)
-      go (Grids n) e = inr (0, no_title (λ n q. let z : ◌≡◌ {A = ℕ} 0 1 = cc in omega arith))
-      go Block e = inr (0, no_title (λ n q. let z : ◌≡◌ {A = ℕ} 0 1 = cc in omega arith))
-      go End e = inr (0, no_title (λ n q. let z : ◌≡◌ {A = ℕ} 0 1 = cc in omega arith))
-      go Fails e = inr (0, no_title (λ n q. let z : ◌≡◌ {A = ℕ} 0 1 = cc in omega arith))
+      go : (f : Option Field) → field_of s ≡ f → Told s
+      go (Some (Title n)) e = fronted (title_back s h n e)
+      go (Some (Grids n)) e = inr (0, no_title (λ n q. let z : ◌≡◌ {A = ℕ} 0 1 = cc in omega arith))
+      go (Some Block) e = inr (0, no_title (λ n q. let z : ◌≡◌ {A = ℕ} 0 1 = cc in omega arith))
+      go (Some End) e = inr (0, no_title (λ n q. let z : ◌≡◌ {A = ℕ} 0 1 = cc in omega arith))
+      go None e = inr (0, no_title (λ n q. let z : ◌≡◌ {A = ℕ} 0 1 = cc in omega arith))
 
   -- what is found is one thing, so that one of the other kind, or at another place, cannot be
   back : (c : Card) → card_of s ≡ sound c → Proper c × (image_of c ≡ s)
@@ -146,7 +146,7 @@ module _ (s : List ℕ) (h : Below 8 s) where
 
 -- ---- no field left to find
 
-nothing : field_of [] ≡ Fails
+nothing : field_of [] ≡ None
 nothing = past_end [] (omega arith)
 
 no_end : (c : Card) → Proper c → card_of (front_of c) ≡ broken (length (front_of c))
@@ -162,9 +162,9 @@ promised = record {
   break_found = λ s place. found;
   no_end = no_end;
   empty = found (no_title (λ n q. let z : ◌≡◌ {A = ℕ} 0 1 = cc nothing in omega arith));
-  long = λ s r l k. ap means (k.answer ∙ checked_long s Refused grids_and_blocks l);
-  sound_checked = λ s c r l e k. ap means (k.answer ∙ checked_found s Refused grids_and_blocks l e);
-  broken_checked = λ s place r l e k. ap means (k.answer ∙ checked_found s Refused grids_and_blocks l e);
+  long = λ s r l k. ap means (k.answer ∙ checked_long s Err grids_and_blocks l);
+  sound_checked = λ s c r l e k. ap means (k.answer ∙ checked_found s Err grids_and_blocks l e);
+  broken_checked = λ s place r l e k. ap means (k.answer ∙ checked_found s Err grids_and_blocks l e);
   title_given = title_given;
 }
 

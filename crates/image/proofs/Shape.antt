@@ -1,5 +1,6 @@
 -- What stands in an image: the field that is found where a tag, a length and a value are written one behind the other; and the data fields
 -- and the title that are written where they are found. Assumes nothing.
+use Rattle.std.specs.Prelude.{None, Option, Some}
 use mathlib.Core.Path.{◌≡◌, refl, sym, ap, ap₂, ◌∙◌}
 use mathlib.Core.Logic.{◌⊎◌, ⊎_elim}
 use mathlib.Core.Bool.{Bool, true, ◌&&◌}
@@ -15,7 +16,7 @@ use Rattle.words.specs.Bytes.{words_in, bytes_of}
 use Rattle.words.proofs.Digits.{length_digits, digits_below, joined-digits, digits-joined, joined_lt}
 use Rattle.words.proofs.Bytes.{length-words, length-bytes, below_take, below_drop, bytes-words, words-bytes, words_below}
 use Rattle.fields.specs.declared.Field.{Field}
-use Rattle.fields.specs.declared.Field.TheVariants.{Title, Grids, Block, End, Fails}
+use Rattle.fields.specs.declared.Field.TheVariants.{Title, Grids, Block, End}
 use Rattle.fields.specs.Fields.{grids_most, size, value, is_title, is_grids, field_of}
 use Rattle.fields.proofs.Fields.{Stands, known, length-value, grids_size, found_title, found_grids, found_block}
 use Rattle.image.specs.Card.{Part, grids, block, Card, Found, grids_at, block_at, before, walk, under_title, card_of, head, part_bytes, parts_bytes, front_of}
@@ -130,7 +131,7 @@ module _ (s : List ℕ) (h : Below 8 s) where
   below_value : Below 8 (value s)
   below_value = below_take 8 (size s) (drop 3 s) (below_drop 8 3 s h)
 
-  grids_back : (n : ℕ) → field_of s ≡ Grids n
+  grids_back : (n : ℕ) → field_of s ≡ Some (Grids n)
       → ProperPart (grids_at n (value s)) × (s ≡ part_bytes (grids_at n (value s)) ++ drop (3 + n) s)
   unfolding part_bytes
   grids_back n e =
@@ -146,7 +147,7 @@ module _ (s : List ℕ) (h : Below 8 s) where
         split 2 n s h st ∙ ap₂ {C = List ℕ} (λ (k : ℕ) (l : List ℕ). head 2 k ++ l ++ drop (3 + n) s) whole (sym bytes),
       )
 
-  block_back : field_of s ≡ Block → ProperPart (block_at (value s)) × (s ≡ part_bytes (block_at (value s)) ++ drop 79 s)
+  block_back : field_of s ≡ Some Block → ProperPart (block_at (value s)) × (s ≡ part_bytes (block_at (value s)) ++ drop 79 s)
   unfolding part_bytes
   block_back e =
       let st = known s e in
@@ -161,7 +162,7 @@ module _ (s : List ℕ) (h : Below 8 s) where
 
 -- the field at the front holds data
 abbrev pub DataAt : List ℕ → Type 0
-DataAt rest = ((n : ℕ) × (field_of rest ≡ Grids n)) ⊎ (field_of rest ≡ Block)
+DataAt rest = ((n : ℕ) × (field_of rest ≡ Some (Grids n))) ⊎ (field_of rest ≡ Some Block)
 
 -- the data fields at the front, up to `left`: if one more comes, there were that many
 record Parsed (left : ℕ) (s : List ℕ) : Type 0 where
@@ -191,12 +192,12 @@ parse : (left : ℕ) (s : List ℕ) → Below 8 s → Parsed left s
 parse zero s h = none 0 s (λ d. refl)
 parse (suc left) s h = go (field_of s) refl (λ n. parse left (drop n s) (below_drop 8 n s h))
   where
-    go : (f : Field) → field_of s ≡ f → ((n : ℕ) → Parsed left (drop n s)) → Parsed (suc left) s
-    go (Grids n) e r = more (grids_at n (value s)) (grids_back s h n e) (r (3 + n))
-    go Block e r = more (block_at (value s)) (block_back s h e) (r 79)
-    go (Title n) e r = none (suc left) s (⊎_elim (λ d. let (m, p) = d in cc) (λ p. cc))
-    go End e r = none (suc left) s (⊎_elim (λ d. let (m, p) = d in cc) (λ p. cc))
-    go Fails e r = none (suc left) s (⊎_elim (λ d. let (m, p) = d in cc) (λ p. cc))
+    go : (f : Option Field) → field_of s ≡ f → ((n : ℕ) → Parsed left (drop n s)) → Parsed (suc left) s
+    go (Some (Grids n)) e r = more (grids_at n (value s)) (grids_back s h n e) (r (3 + n))
+    go (Some Block) e r = more (block_at (value s)) (block_back s h e) (r 79)
+    go (Some (Title n)) e r = none (suc left) s (⊎_elim (λ d. let (m, p) = d in cc) (λ p. cc))
+    go (Some End) e r = none (suc left) s (⊎_elim (λ d. let (m, p) = d in cc) (λ p. cc))
+    go None e r = none (suc left) s (⊎_elim (λ d. let (m, p) = d in cc) (λ p. cc))
 
 -- the front of a card, and what is left behind it
 pub record Fronted (s : List ℕ) : Type 0 where
@@ -206,7 +207,7 @@ pub record Fronted (s : List ℕ) : Type 0 where
   pub is : s ≡ front_of card ++ rest
   pub full : DataAt rest → length card.parts ≡ 16
 
-pub title_back : (s : List ℕ) → Below 8 s → (n : ℕ) → field_of s ≡ Title n → Fronted s
+pub title_back : (s : List ℕ) → Below 8 s → (n : ℕ) → field_of s ≡ Some (Title n) → Fronted s
 unfolding front_of
 title_back s h n e =
     let (st, test) = known s e in

@@ -1,10 +1,10 @@
 -- What a card image holds, and where it is broken. Assumes nothing.
-use Rattle.std.specs.Prelude.{List, [], ◌∷◌, ◌++◌, ℕ, zero, suc, ◌+◌, ◌*◌, ◌/◌, ◌%◌, eqb, length}
+use Rattle.std.specs.Prelude.{List, [], ◌∷◌, ◌++◌, ℕ, zero, suc, ◌+◌, ◌*◌, ◌/◌, ◌%◌, eqb, length, Option, Some, None}
 use Rattle.words.specs.Word.{choose}
 use Rattle.words.specs.Digits.{digits, joined}
 use Rattle.words.specs.Bytes.{words_in, bytes_of}
 use Rattle.fields.specs.declared.Field.{Field}
-use Rattle.fields.specs.declared.Field.TheVariants.{Title, Grids, Block, End, Fails}
+use Rattle.fields.specs.declared.Field.TheVariants.{Title, Grids, Block, End}
 use Rattle.fields.specs.Fields.{head_bytes, block_bytes, value, behind, field_of}
 
 -- the longest image, and the most data fields
@@ -54,12 +54,12 @@ before p (broken at) = broken at
 
 -- What stands from the offset `at` on; `go` is what is found behind a data field. The end is the last field, and bytes behind it give the
 -- offset of the first of them. A second title breaks the image, as does any field at which a rule fails.
-abbrev pub follow : (ℕ → List ℕ → Found (List Part)) → ℕ → List ℕ → Field → Found (List Part)
-follow go at rest (Grids n) = before (grids_at n (value rest)) (go (at + (head_bytes + n)) (behind rest))
-follow go at rest Block = before (block_at (value rest)) (go (at + (head_bytes + block_bytes)) (behind rest))
-follow go at rest End = choose (eqb (length rest) head_bytes) (sound []) (broken (at + head_bytes))
-follow go at rest (Title n) = broken at
-follow go at rest Fails = broken at
+abbrev pub follow : (ℕ → List ℕ → Found (List Part)) → ℕ → List ℕ → Option Field → Found (List Part)
+follow go at rest (Some (Grids n)) = before (grids_at n (value rest)) (go (at + (head_bytes + n)) (behind rest))
+follow go at rest (Some Block) = before (block_at (value rest)) (go (at + (head_bytes + block_bytes)) (behind rest))
+follow go at rest (Some End) = choose (eqb (length rest) head_bytes) (sound []) (broken (at + head_bytes))
+follow go at rest (Some (Title n)) = broken at
+follow go at rest None = broken at
 
 -- The fields behind the title, from the offset `at` on, where `left` data fields may still come: one more breaks the image at its own
 -- offset. If the last field stops where the image stops and is no end, no field is left to find, and the image's own length is given.
@@ -72,12 +72,12 @@ under_title title (sound ps) = sound (record { title = title; parts = ps })
 under_title title (broken at) = broken at
 
 -- The title comes first; then at most 16 data fields.
-abbrev pub titled : List ℕ → Field → Found Card
-titled image (Title n) = under_title (value image) (walk data_fields (head_bytes + n) (behind image))
-titled image (Grids n) = broken 0
-titled image Block = broken 0
-titled image End = broken 0
-titled image Fails = broken 0
+abbrev pub titled : List ℕ → Option Field → Found Card
+titled image (Some (Title n)) = under_title (value image) (walk data_fields (head_bytes + n) (behind image))
+titled image (Some (Grids n)) = broken 0
+titled image (Some Block) = broken 0
+titled image (Some End) = broken 0
+titled image None = broken 0
 
 unfoldable pub card_of : List ℕ → Found Card
 card_of image = titled image (field_of image)

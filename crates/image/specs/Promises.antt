@@ -1,14 +1,15 @@
 -- What is proved of a card image (`promised`, `one_outcome`). `Below 8` says that each number is a byte, as in every slice of bytes that is
 -- lent. Assumes nothing.
-use Rattle.std.specs.Prelude.{◌≡◌, ◌≢◌, ◌⊎◌, true, List, [], ◌∷◌, ◌++◌, ℕ, ◌*◌, ◌^◌, ◌≤◌, ◌<◌, length}
+use Rattle.std.specs.Prelude.{◌≡◌, ◌≢◌, ◌⊎◌, true, List, [], ◌∷◌, ◌++◌, ℕ, ◌*◌, ◌^◌, ◌≤◌, ◌<◌, length, Result, Some, None}
 use Rattle.words.specs.Digits.{Below}
 use Rattle.refusals.specs.Reply.{gives, refuses, refuses_at}
-use Rattle.fields.specs.declared.Field.TheVariants.{Title, Grids, Block, Fails}
+use Rattle.fields.specs.declared.Field.TheVariants.{Title, Grids, Block}
 use Rattle.fields.specs.Fields.{grids_most, is_title, field_of}
-use Rattle.image.specs.declared.CheckAnswer.{CheckAnswer}
 use Rattle.image.specs.Card.{Part, grids, block, Card, sound, broken, most_bytes, data_fields, grids_in, blocks_in, card_of, front_of, image_of}
 use Rattle.image.specs.Answer.{means}
 use Rattle.image.specs.Calls.{Checked, TitleGiven}
+use Rattle.image.specs.declared.Counts.{Counts}
+use Rattle.refusals.specs.declared.Refusal.{Refusal}
 
 -- A card that can stand in an image: a title of 1 to 24 bytes, each 20 to 7E hex; at most 16 data fields, each of at most 512 grids, of 8
 -- bytes each, or of one block.
@@ -28,14 +29,15 @@ pub record Proper (c : Card) : Type 0 where
 -- Why an image is broken, and where. All fields before the place are as they should be: they are the front of a card.
 pub data Break (s : List ℕ) : ℕ → Type 0 where
   -- the first field is no title
-  no_title : ((n : ℕ) → field_of s ≢ Title n) → Break s 0
+  no_title : ((n : ℕ) → field_of s ≢ Some (Title n)) → Break s 0
   -- a rule fails at a field
-  fails : (c : Card) (rest : List ℕ) → Proper c → s ≡ front_of c ++ rest → field_of rest ≡ Fails → Break s (length (front_of c))
+  fails : (c : Card) (rest : List ℕ) → Proper c → s ≡ front_of c ++ rest → field_of rest ≡ None → Break s (length (front_of c))
   -- a title that is repeated
-  repeated : (c : Card) (rest : List ℕ) (n : ℕ) → Proper c → s ≡ front_of c ++ rest → field_of rest ≡ Title n → Break s (length (front_of c))
+  repeated : (c : Card) (rest : List ℕ) (n : ℕ) → Proper c → s ≡ front_of c ++ rest → field_of rest ≡ Some (Title n)
+      → Break s (length (front_of c))
   -- a seventeenth data field
   seventeenth : (c : Card) (rest : List ℕ) → Proper c → length c.parts ≡ data_fields → s ≡ front_of c ++ rest
-      → ((n : ℕ) × (field_of rest ≡ Grids n)) ⊎ (field_of rest ≡ Block) → Break s (length (front_of c))
+      → ((n : ℕ) × (field_of rest ≡ Some (Grids n))) ⊎ (field_of rest ≡ Some Block) → Break s (length (front_of c))
   -- bytes behind the end: the offset of the first of them
   behind_end : (c : Card) (b : ℕ) (bytes : List ℕ) → Proper c → s ≡ image_of c ++ (b ∷ bytes) → Break s (length (image_of c))
 
@@ -53,16 +55,16 @@ pub record ImagePromises : Type 0 where
   pub no_end : (c : Card) → Proper c → card_of (front_of c) ≡ broken (length (front_of c))
   pub empty : card_of [] ≡ broken 0
   -- Over 32,768 bytes: 3, whatever stands in them.
-  pub long : (s : List ℕ) (r : CheckAnswer) → most_bytes < length s → Checked s r → means r ≡ refuses 3
+  pub long : (s : List ℕ) (r : Result Counts Refusal) → most_bytes < length s → Checked s r → means r ≡ refuses 3
   -- A sound image gives its numbers of grids and of blocks, a broken one 4 with the place.
-  pub sound_checked : (s : List ℕ) (c : Card) (r : CheckAnswer) → length s ≤ most_bytes → card_of s ≡ sound c → Checked s r
+  pub sound_checked : (s : List ℕ) (c : Card) (r : Result Counts Refusal) → length s ≤ most_bytes → card_of s ≡ sound c → Checked s r
       → means r ≡ gives (record { grids = length (grids_in c.parts); blocks = length (blocks_in c.parts) })
-  pub broken_checked : (s : List ℕ) (at : ℕ) (r : CheckAnswer) → length s ≤ most_bytes → card_of s ≡ broken at → Checked s r
+  pub broken_checked : (s : List ℕ) (at : ℕ) (r : Result Counts Refusal) → length s ≤ most_bytes → card_of s ≡ broken at → Checked s r
       → means r ≡ refuses_at 4 at
   -- `image::title` gives the card's title.
   pub title_given : (s r : List ℕ) (c : Card) → card_of s ≡ sound c → TitleGiven s r → r ≡ c.title
 
 -- No second outcome satisfies the statement of a call.
 pub record OneOutcome : Type 0 where
-  pub check : (s : List ℕ) (a b : CheckAnswer) → Checked s a → Checked s b → a ≡ b
+  pub check : (s : List ℕ) (a b : Result Counts Refusal) → Checked s a → Checked s b → a ≡ b
   pub title : (s a b : List ℕ) → TitleGiven s a → TitleGiven s b → a ≡ b

@@ -10,16 +10,18 @@
 ghost use Rattle.std.specs.Prelude.{◌≡◌, ◌≤◌, length, drop};
 ghost use Rattle.image.specs.Calls.{Checked, TitleGiven};
 ghost use Rattle.image.specs.Card.{most_bytes, data_fields, walk};
-ghost use Rattle.image.specs.Steps.{found_after, Roomy, behind_data, Inside, Stepped};
+ghost use Rattle.image.specs.Steps.{found_after, Roomy, behind_data, Inside, Stepped, title_size};
+ghost use Rattle.fields.specs.Fields.{field_of};
 
 use fields::{BLOCK, Field, HEAD};
 use refusals::Refusal;
+use std::ops::ControlFlow;
 
-// The answer of a check: the numbers of grids and of blocks, or a refusal.
-#[derive(Drop)]
-pub enum CheckAnswer {
-    Done { grids: usize, blocks: usize },
-    Refused(Refusal),
+// What a check counts: the grids and the blocks of an image.
+#[derive(Clone, Copy, Debug, PartialEq, Eq)]
+pub struct Counts {
+    pub grids: usize,
+    pub blocks: usize,
 }
 
 // The longest image, and the most data fields.
@@ -36,25 +38,18 @@ struct Progress {
     pub blocks: usize,
 }
 
-// Where a walk goes from a field: on to the next one, or it is over.
-#[derive(Drop)]
-enum Onward {
-    To(Progress),
-    Over(CheckAnswer),
-}
-
 // Behind a data field of `size` bytes, head and value, with so many grids and blocks. Where no data field may come any more, it breaks the
 // image.
-fn behind(p: Progress, size: usize, grids: usize, blocks: usize) -> Onward
+fn behind(p: Progress, size: usize, grids: usize, blocks: usize) -> Result<Progress, Refusal>
     requires { Roomy p size grids blocks }
     ensures { result ≡ behind_data p size grids blocks }
 {
     let at = p.at;
     let left = p.left;
     if left == 0 {
-        return Onward::Over(CheckAnswer::Refused(Refusal::Broken(at)));
+        return Err(Refusal::Broken(at));
     }
-    Onward::To(Progress {
+    Ok(Progress {
         at: at + size,
         left: left - 1,
         grids: p.grids + grids,
@@ -62,34 +57,33 @@ fn behind(p: Progress, size: usize, grids: usize, blocks: usize) -> Onward
     })
 }
 
-// From the field that is next.
+// From the field that is next: on to the one behind it, or the walk is over.
 #[tactic(auto, using(crate::proofs::Stepping::end_found))]
-fn next(image: &[u8], p: Progress) -> Onward
+fn next(image: &[u8], p: Progress) -> Result<ControlFlow<Counts, Progress>, Refusal>
     requires { Inside image.now p }
     ensures { Stepped image.now p result }
 {
     let at = p.at;
     let rest = &image[at..];
-    match fields::front(rest) {
-        Field::Grids(n) => behind(p, HEAD + n, n / 8, 0),
-        Field::Block => behind(p, HEAD + BLOCK, 0, 1),
+    match fields::front(rest).ok_or(Refusal::Broken(at))? {
+        Field::Grids(n) => Ok(ControlFlow::Continue(behind(p, HEAD + n, n / 8, 0)?)),
+        Field::Block => Ok(ControlFlow::Continue(behind(p, HEAD + BLOCK, 0, 1)?)),
         Field::End => {
             if rest.len() == HEAD {
-                return Onward::Over(CheckAnswer::Done {
+                return Ok(ControlFlow::Break(Counts {
                     grids: p.grids,
                     blocks: p.blocks,
-                });
+                }));
             }
             let end = at + HEAD;
-            Onward::Over(CheckAnswer::Refused(Refusal::Broken(end)))
+            Err(Refusal::Broken(end))
         }
-        Field::Title(_) => Onward::Over(CheckAnswer::Refused(Refusal::Broken(at))),
-        Field::Fails => Onward::Over(CheckAnswer::Refused(Refusal::Broken(at))),
+        Field::Title(_) => Err(Refusal::Broken(at)),
     }
 }
 
-// The fields from an offset on.
-fn walk(image: &[u8], from: usize) -> CheckAnswer
+// The fields from an offset on. No `for`: only the step knows how far a field goes.
+fn walk(image: &[u8], from: usize) -> Result<Counts, Refusal>
     requires { (from ≤ length image.now) × (length image.now ≤ most_bytes) }
     ensures { result ≡ found_after 0 0 (walk data_fields from (drop from image.now)) }
 {
@@ -100,42 +94,44 @@ fn walk(image: &[u8], from: usize) -> CheckAnswer
         blocks: 0,
     };
     loop {
-        match next(image, p) {
-            Onward::To(behind) => {
+        match next(image, p)? {
+            ControlFlow::Continue(behind) => {
                 p = behind;
             }
-            Onward::Over(answer) => {
-                return answer;
+            ControlFlow::Break(counts) => {
+                return Ok(counts);
             }
         }
+    }
+}
+
+// The length of the title in front, where there is one.
+fn title_size(image: &[u8]) -> Option<usize>
+    ensures { result ≡ title_size (field_of image.now) }
+{
+    match fields::front(image)? {
+        Field::Title(n) => Some(n),
+        Field::Grids(_) | Field::Block | Field::End => None,
     }
 }
 
 // Checks a whole image.
-pub fn check(image: &[u8]) -> CheckAnswer
+pub fn check(image: &[u8]) -> Result<Counts, Refusal>
     ensures { Checked image.now result }
 {
     if image.len() > MOST_BYTES {
-        return CheckAnswer::Refused(Refusal::Length);
+        return Err(Refusal::Length);
     }
-    match fields::front(image) {
-        Field::Title(n) => {
-            let end = HEAD + n;
-            walk(image, end)
-        }
-        _ => CheckAnswer::Refused(Refusal::Broken(0)),
-    }
+    let n = title_size(image).ok_or(Refusal::Broken(0))?;
+    walk(image, HEAD + n)
 }
 
-// The title of an image, as it stands there; nothing where the first field is no title.
+// The title of an image, as it stands there; no bytes where the first field is no title, for the call never failed.
 pub fn title(image: &[u8]) -> &[u8]
     ensures { TitleGiven image.now result.now }
 {
-    match fields::front(image) {
-        Field::Title(n) => {
-            let end = HEAD + n;
-            &image[HEAD..end]
-        }
-        _ => &image[..0],
+    match title_size(image) {
+        Some(n) => &image[HEAD..HEAD + n],
+        None => &image[..0],
     }
 }

@@ -1,13 +1,14 @@
 -- A number in decimal: its last digit and those before it, how many there are, and what they are. Assumes nothing.
 use mathlib.Core.Path.{◌≡◌, sym, ap, ap₂, ◌∙◌, subst}
-use mathlib.Core.List.{List, [], ◌∷◌, ◌++◌, append-nil}
+use mathlib.Core.List.{List, [], ◌∷◌, ◌++◌, append-nil, reverse}
 use Prim.Native.Nat.{ℕ, zero, suc, ◌+◌, ◌-◌, ◌*◌, ◌/◌, ◌%◌, ◌^◌, ◌≤◌, ◌<◌}
 use native.Mathlib.Nat.{not-suc-le-zero, zero-add, pow-suc}
 use native.Mathlib.Decide.{dec_lt}
 use native.Mathlib.Omega.{arith}
-use lib.ListN.{length, get_or, set, take, drop, length-append, length-set, length-drop, get_or-append}
-use lib.Seq.{take_all, length-take-le, append_snoc, set_split, drop_at, get_or_at}
+use lib.ListN.{length, get_or, length-append, get_or-append}
+use lib.Seq.{append_snoc, get_or_at}
 use borrow.Author.Tests.{lt-ltb, le-ltb}
+use Rattle.std.proofs.lemmas.List.{reverse-append}
 use Rattle.lines.specs.Text.{digit, decimal_in, decimal}
 use Rattle.lines.specs.Promises.{value_from, value_of, Digits}
 
@@ -77,29 +78,22 @@ digits_64 n h = few_digits 19 n (omega arith)
 
 -- ---- one after the other, the last first
 
-module _ (n rest i : ℕ) (ds : List ℕ) (some : 1 ≤ i) (within : i ≤ length ds) (is : decimal rest ++ drop i ds ≡ decimal n) where
-  abbrev turned : List ℕ
-  turned = set ds (i - 1) (digit (rest % 10))
+module _ (n rest : ℕ) (ds : List ℕ) (is : decimal rest ++ reverse ds ≡ decimal n) where
+  abbrev more : List ℕ
+  more = ds ++ (digit (rest % 10) ∷ [])
 
-  in_front : drop (i - 1) turned ≡ digit (rest % 10) ∷ drop i ds
-  in_front =
-      let e : suc (i - 1) ≡ i = omega arith in
-      ap (drop (i - 1)) (set_split ds (i - 1) (digit (rest % 10)) (omega arith))
-      ∙ drop_at (take (i - 1) ds) (digit (rest % 10) ∷ drop (suc (i - 1)) ds) (i - 1) (length-take-le (i - 1) ds (omega arith))
-      ∙ ap {B = List ℕ} (λ (k : ℕ). digit (rest % 10) ∷ drop k ds) e
+  turned : reverse more ≡ digit (rest % 10) ∷ reverse ds
+  turned = reverse-append ds (digit (rest % 10) ∷ [])
 
-  pub first_turn : rest < 10 → take (length ds - (i - 1)) (drop (i - 1) turned) ≡ decimal n
+  pub first_turn : rest < 10 → reverse more ≡ decimal n
   first_turn h =
       let e : rest % 10 ≡ rest = omega arith in
-      take_all (length ds - (i - 1)) (drop (i - 1) turned)
-      (omega (arith, length-drop (i - 1) turned, length-set ds (i - 1) (digit (rest % 10))))
-      ∙ in_front
-      ∙ ap {B = List ℕ} (λ (d : ℕ). digit d ∷ drop i ds) e ∙ sym (ap (λ l. l ++ drop i ds) (one_digit rest h)) ∙ is
+      turned ∙ ap {B = List ℕ} (λ (d : ℕ). digit d ∷ reverse ds) e ∙ sym (ap (λ l. l ++ reverse ds) (one_digit rest h)) ∙ is
 
-  pub next_turn : 10 ≤ rest → decimal (rest / 10) ++ drop (i - 1) turned ≡ decimal n
+  pub next_turn : 10 ≤ rest → decimal (rest / 10) ++ reverse more ≡ decimal n
   next_turn h =
-      ap (λ l. decimal (rest / 10) ++ l) in_front ∙ sym (append_snoc (decimal (rest / 10)) (digit (rest % 10)) (drop i ds))
-      ∙ sym (ap (λ l. l ++ drop i ds) (more_digits rest h))
+      ap (λ l. decimal (rest / 10) ++ l) turned ∙ sym (append_snoc (decimal (rest / 10)) (digit (rest % 10)) (reverse ds))
+      ∙ sym (ap (λ l. l ++ reverse ds) (more_digits rest h))
       ∙ is
 
 -- ---- what they are

@@ -1,4 +1,5 @@
 -- How long the lines are, and how many. Assumes nothing.
+use Rattle.std.specs.Prelude.{None, Option, Some}
 use mathlib.Core.Path.{◌≡◌, refl, sym, ap, ◌∙◌, subst}
 use mathlib.Core.Bool.{Bool, true, false, and-eq-true_iff}
 use mathlib.Core.List.{List, [], ◌∷◌, ◌++◌}
@@ -12,8 +13,6 @@ use borrow.Author.Tests.{ne_eqb, eqb-true, leb-true}
 use Rattle.words.specs.Word.{choose}
 use Rattle.refusals.specs.declared.Refusal.{Refusal}
 use Rattle.refusals.specs.declared.Refusal.TheVariants.{Length, Broken}
-use Rattle.refusals.specs.declared.Place.{Place}
-use Rattle.refusals.specs.declared.Place.TheVariants.{At, Nowhere}
 use Rattle.refusals.specs.Reply.{numbered, number_of, place_of}
 use Rattle.refusals.proofs.Promises.{few_numbers}
 use Rattle.page.specs.Tally.{grid_tally}
@@ -130,10 +129,10 @@ card_lines_lem s c l e =
 
 -- ---- a refusal
 
-place_text_lem : (p : Place) → Part (place_text p) (length (place_text p)) 0
+place_text_lem : (p : Option ℕ) → Part (place_text p) (length (place_text p)) 0
 unfolding line_ends labelled
-place_text_lem (At n) = record { few = omega arith; ending = omega (arith, ends_append (bytes " at ") (decimal n), decimal_ends n) }
-place_text_lem Nowhere = whole []
+place_text_lem (Some n) = record { few = omega arith; ending = omega (arith, ends_append (bytes " at ") (decimal n), decimal_ends n) }
+place_text_lem None = whole []
 
 refused_line_lem : (why : Refusal) → Part (refused_line why) (18 + length (place_text (place_of (numbered why))) + 1) 1
 unfolding refused_line line_ends

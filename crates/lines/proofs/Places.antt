@@ -1,4 +1,5 @@
 -- The place of a break is in the image, or right behind it. Assumes nothing.
+use Rattle.std.specs.Prelude.{None, Option, Some}
 use mathlib.Core.Path.{◌≡◌, refl, sym, ap, subst}
 use mathlib.Core.List.{List}
 use Prim.Native.Nat.{ℕ, zero, suc, ◌+◌, ◌≤◌}
@@ -6,7 +7,7 @@ use native.Mathlib.Decide.{ℕ_discrete}
 use native.Mathlib.Omega.{arith}
 use lib.ListN.{length, drop, length-drop}
 use Rattle.fields.specs.declared.Field.{Field}
-use Rattle.fields.specs.declared.Field.TheVariants.{Title, Grids, Block, End, Fails}
+use Rattle.fields.specs.declared.Field.TheVariants.{Title, Grids, Block, End}
 use Rattle.fields.specs.Fields.{value, field_of}
 use Rattle.fields.proofs.Fields.{known}
 use Rattle.image.specs.Card.{Part, Found, sound, broken, grids_at, block_at, before, walk, under_title, titled, card_of}
@@ -29,7 +30,7 @@ module _ (left at : ℕ) (s : List ℕ) where
   found : {x : Found (List Part)} → walk left at s ≡ x → Inside (at + length s) x → Inside (at + length s) (walk left at s)
   found e h = subst (Inside (at + length s)) (sym e) h
 
-  at-end : field_of s ≡ End → Inside (at + length s) (walk left at s)
+  at-end : field_of s ≡ Some End → Inside (at + length s) (walk left at s)
   at-end f = go (ℕ_discrete (length s) 3)
     where
       go : Dec (length s ≡ 3) → Inside (at + length s) (walk left at s)
@@ -37,16 +38,16 @@ module _ (left at : ℕ) (s : List ℕ) where
       go (no l) = found (walk-behind at s left f l) (omega (arith, (known s f).room))
 
   -- what stands in front decides, where it is known of each data field
-  by_field : ((n : ℕ) → field_of s ≡ Grids n → Inside (at + length s) (walk left at s))
-      → (field_of s ≡ Block → Inside (at + length s) (walk left at s)) → Inside (at + length s) (walk left at s)
+  by_field : ((n : ℕ) → field_of s ≡ Some (Grids n) → Inside (at + length s) (walk left at s))
+      → (field_of s ≡ Some Block → Inside (at + length s) (walk left at s)) → Inside (at + length s) (walk left at s)
   by_field grids block = go (field_of s) refl
     where
-      go : (f : Field) → field_of s ≡ f → Inside (at + length s) (walk left at s)
-      go (Title n) f = found (walk_title at s left n f) (omega arith)
-      go (Grids n) f = grids n f
-      go Block f = block f
-      go End f = at-end f
-      go Fails f = found (walk_fails at s left f) (omega arith)
+      go : (f : Option Field) → field_of s ≡ f → Inside (at + length s) (walk left at s)
+      go (Some (Title n)) f = found (walk_title at s left n f) (omega arith)
+      go (Some (Grids n)) f = grids n f
+      go (Some Block) f = block f
+      go (Some End) f = at-end f
+      go None f = found (walk_fails at s left f) (omega arith)
 
 walk_inside : (left at : ℕ) (s : List ℕ) → Inside (at + length s) (walk left at s)
 walk_inside zero at s =
@@ -66,15 +67,15 @@ card_inside : (s : List ℕ) → Inside (length s) (card_of s)
 unfolding card_of
 card_inside s = go (field_of s) refl
   where
-    go : (f : Field) → field_of s ≡ f → Inside (length s) (titled s (field_of s))
-    go (Title n) f =
+    go : (f : Option Field) → field_of s ≡ f → Inside (length s) (titled s (field_of s))
+    go (Some (Title n)) f =
         subst (Inside (length s)) (sym (card_titled s n f))
         (behind_title (value s) (walk 16 (3 + n) (drop (3 + n) s)) (omega (arith, length-drop (3 + n) s, (known s f).0.room))
         (walk_inside 16 (3 + n) (drop (3 + n) s)))
-    go (Grids n) f = subst (Inside (length s)) (sym (ap (titled s) f)) (omega arith)
-    go Block f = subst (Inside (length s)) (sym (ap (titled s) f)) (omega arith)
-    go End f = subst (Inside (length s)) (sym (ap (titled s) f)) (omega arith)
-    go Fails f = subst (Inside (length s)) (sym (ap (titled s) f)) (omega arith)
+    go (Some (Grids n)) f = subst (Inside (length s)) (sym (ap (titled s) f)) (omega arith)
+    go (Some Block) f = subst (Inside (length s)) (sym (ap (titled s) f)) (omega arith)
+    go (Some End) f = subst (Inside (length s)) (sym (ap (titled s) f)) (omega arith)
+    go None f = subst (Inside (length s)) (sym (ap (titled s) f)) (omega arith)
 
 pub place_inside : (s : List ℕ) (at : ℕ) → card_of s ≡ broken at → at ≤ length s
 place_inside s at e = subst (Inside (length s)) e (card_inside s)

@@ -1,4 +1,5 @@
 -- What specs/Promises.antt says of the call and of what it prints holds. Assumes nothing.
+use Rattle.std.specs.Prelude.{Err, Ok, Result}
 use mathlib.Core.Path.{◌≡◌, refl, sym, ap, ◌∙◌}
 use mathlib.Core.List.{List}
 use Prim.Native.Nat.{ℕ, ◌≤◌, ◌<◌}
@@ -14,12 +15,8 @@ use Rattle.refusals.proofs.Promises.{nothing_given}
 use Rattle.image.specs.Card.{Card, sound, most_bytes, card_of}
 use Rattle.image.proofs.Checking.{checked_found, Decided, card_found, no_card, decided}
 use Rattle.card_scrub.specs.declared.Tallies.{Tallies}
-use Rattle.card_scrub.specs.declared.ScrubAnswer.{ScrubAnswer}
-use Rattle.card_scrub.specs.declared.ScrubAnswer.TheVariants.{Refused as ScrubRefused}
 use Rattle.card_scrub.specs.Answer.{means as scrub_means}
 use Rattle.card_scrub.specs.Calls.{tallies_of, Scrubbed}
-use Rattle.lines.specs.declared.LinesAnswer.{LinesAnswer}
-use Rattle.lines.specs.declared.LinesAnswer.TheVariants.{Done}
 use Rattle.lines.specs.Text.{bytes, decimal, labelled, title_line, grids_line, blocks_line, refused_line, card_lines, lines_of}
 use Rattle.lines.specs.Answer.{means}
 use Rattle.lines.specs.Calls.{room, Printed}
@@ -28,21 +25,22 @@ use Rattle.lines.specs.Promises.{LinesPromises, OneOutcome}
 use Rattle.lines.proofs.Digits.{one_digit, right_value, all_digits, no_zero_first, only_digits}
 use Rattle.lines.proofs.Printing.{counted, refused_lines, no_room}
 use Rattle.lines.proofs.Lengths.{one_line, three_lines, fits}
+use Rattle.refusals.specs.declared.Refusal.{Refusal}
 
 -- no second outcome
-same : {image text a b s t : List ℕ} {r q : LinesAnswer} → Printed image text r a s → Printed image text q b t → (r ≡ q) × (a ≡ b) × (s ≡ t)
+same : {image text a b s t : List ℕ} {r q : Result ℕ Refusal} → Printed image text r a s → Printed image text q b t → (r ≡ q) × (a ≡ b) × (s ≡ t)
 same x y = (x.answer ∙ sym y.answer, x.image_after ∙ sym y.image_after, x.text_after ∙ sym y.text_after)
 
-module _ {image text image' text' : List ℕ} {r : LinesAnswer} (h : Printed image text r image' text') where
+module _ {image text image' text' : List ℕ} {r : Result ℕ Refusal} (h : Printed image text r image' text') where
   short : length text < room → (means r ≡ refuses 6) × (image' ≡ image) × (text' ≡ text)
   short l = let (a, i, t) = same h (no_room image text l) in (ap means a, i, t)
 
   done : room ≤ length text
       → (means r ≡ gives (length (lines_of image))) × (text' ≡ laid (lines_of image) text)
-      × ((q : ScrubAnswer) (exit : List ℕ) → Scrubbed image q exit → image' ≡ exit)
+      × ((q : Result Tallies Refusal) (exit : List ℕ) → Scrubbed image q exit → image' ≡ exit)
   done l =
       let f = le-leb room (length text) l in
-      let answer : r ≡ Done (length (lines_of image)) = h.answer ∙ (rw f) in
+      let answer : r ≡ Ok (length (lines_of image)) = h.answer ∙ (rw f) in
       (ap means answer, h.text_after ∙ (rw f), λ q exit s. h.image_after ∙ (rw f (sym s.after)))
 
   given : (n : ℕ) → means r ≡ gives n → n ≤ length text'
@@ -62,15 +60,15 @@ record Whole (s : List ℕ) (t : Tallies) : Type 0 where
   pub is : card_of s ≡ sound card
   pub tally : t ≡ tallies_of card.parts
 
-module _ (s exit : List ℕ) (q : ScrubAnswer) (t : Tallies) (h : Scrubbed s q exit) (m : scrub_means q ≡ gives t) where
+module _ (s exit : List ℕ) (q : Result Tallies Refusal) (t : Tallies) (h : Scrubbed s q exit) (m : scrub_means q ≡ gives t) where
   whole : Whole s t
   whole = go (decided s)
     where
       go : Decided s → Whole s t
       go (card_found c l e) =
-          let a = ap scrub_means (h.answer ∙ checked_found s ScrubRefused counted l e) in
+          let a = ap scrub_means (h.answer ∙ checked_found s Err counted l e) in
           record { card = c; few = l; is = e; tally = cc }
-      go (no_card why f) = nothing_given why (sym (ap scrub_means (h.answer ∙ f ScrubAnswer ScrubRefused counted)) ∙ m)
+      go (no_card why f) = nothing_given why (sym (ap scrub_means (h.answer ∙ f (Result Tallies Refusal) Err counted)) ∙ m)
 
   of_done : lines_of s ≡ lines_with whole.card.title t
   of_done =

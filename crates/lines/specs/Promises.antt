@@ -1,5 +1,5 @@
 -- What is proved of the call and of what it prints (`promised`, `one_outcome`). Assumes nothing.
-use Rattle.std.specs.Prelude.{◌≡◌, List, [], ◌∷◌, ◌++◌, ℕ, suc, ◌+◌, ◌-◌, ◌*◌, ◌≤◌, ◌<◌, eqb, length, get_or}
+use Rattle.std.specs.Prelude.{◌≡◌, List, [], ◌∷◌, ◌++◌, ℕ, suc, ◌+◌, ◌-◌, ◌*◌, ◌≤◌, ◌<◌, eqb, length, get_or, Err, Result}
 use Rattle.words.specs.Word.{choose}
 use Rattle.words.specs.Bytes.{laid}
 use Rattle.refusals.specs.declared.Refusal.{Refusal}
@@ -7,11 +7,8 @@ use Rattle.refusals.specs.declared.Refusal.TheVariants.{Broken}
 use Rattle.refusals.specs.Reply.{gives, refuses}
 use Rattle.image.specs.Card.{Card, sound, card_of}
 use Rattle.card_scrub.specs.declared.Tallies.{Tallies}
-use Rattle.card_scrub.specs.declared.ScrubAnswer.{ScrubAnswer}
 use Rattle.card_scrub.specs.Answer.{means as scrub_means}
-use Rattle.card_scrub.specs.declared.ScrubAnswer.TheVariants.{Refused as ScrubRefused}
 use Rattle.card_scrub.specs.Calls.{Scrubbed}
-use Rattle.lines.specs.declared.LinesAnswer.{LinesAnswer}
 use Rattle.lines.specs.Text.{decimal, bytes, title_line, grids_line, blocks_line, refused_line, lines_of}
 use Rattle.lines.specs.Answer.{means}
 use Rattle.lines.specs.Calls.{room, Printed}
@@ -35,22 +32,22 @@ line_ends (b ∷ bs) = choose (eqb b 10) (suc (line_ends bs)) (line_ends bs)
 
 pub record LinesPromises : Type 0 where
   -- A text of under 219 bytes: 6, and nothing is written.
-  pub short : (image text image' text' : List ℕ) (r : LinesAnswer) → length text < room → Printed image text r image' text'
+  pub short : (image text image' text' : List ℕ) (r : Result ℕ Refusal) → length text < room → Printed image text r image' text'
       → (means r ≡ refuses 6) × (image' ≡ image) × (text' ≡ text)
   -- Any other: the lines stand at the front of it, and the image is as a scrub leaves it.
-  pub done : (image text image' text' : List ℕ) (r : LinesAnswer) → room ≤ length text → Printed image text r image' text'
+  pub done : (image text image' text' : List ℕ) (r : Result ℕ Refusal) → room ≤ length text → Printed image text r image' text'
       → (means r ≡ gives (length (lines_of image))) × (text' ≡ laid (lines_of image) text)
-      × ((q : ScrubAnswer) (exit : List ℕ) → Scrubbed image q exit → image' ≡ exit)
+      × ((q : Result Tallies Refusal) (exit : List ℕ) → Scrubbed image q exit → image' ≡ exit)
   -- The lines always fit into 219 bytes, so that as many as are given stand in the text.
   pub fits : (image : List ℕ) → length (lines_of image) ≤ room
-  pub given : (image text image' text' : List ℕ) (r : LinesAnswer) (n : ℕ) → Printed image text r image' text' → means r ≡ gives n
+  pub given : (image text image' text' : List ℕ) (r : Result ℕ Refusal) (n : ℕ) → Printed image text r image' text' → means r ≡ gives n
       → n ≤ length text'
   -- They say what the scrub answers: the title and both tallies, or the refusal.
-  pub of_done : (image exit : List ℕ) (q : ScrubAnswer) (t : Tallies) → Scrubbed image q exit → scrub_means q ≡ gives t
+  pub of_done : (image exit : List ℕ) (q : Result Tallies Refusal) (t : Tallies) → Scrubbed image q exit → scrub_means q ≡ gives t
       → (c : Card) × (card_of image ≡ sound c) × (lines_of image ≡ title_line c.title ++ grids_line t.grids ++ blocks_line t.blocks)
-  pub of_refused : (image exit : List ℕ) (why : Refusal) → Scrubbed image (ScrubRefused why) exit → lines_of image ≡ refused_line why
+  pub of_refused : (image exit : List ℕ) (why : Refusal) → Scrubbed image (Err why) exit → lines_of image ≡ refused_line why
   -- That is three lines, or one.
-  pub three_lines : (image exit : List ℕ) (q : ScrubAnswer) (t : Tallies) → Scrubbed image q exit → scrub_means q ≡ gives t
+  pub three_lines : (image exit : List ℕ) (q : Result Tallies Refusal) (t : Tallies) → Scrubbed image q exit → scrub_means q ≡ gives t
       → line_ends (lines_of image) ≡ 3
   pub one_line : (why : Refusal) → line_ends (refused_line why) ≡ 1
   -- A number is printed in digits that say it, with no zero in front unless it is 0; ..
@@ -70,5 +67,5 @@ pub record LinesPromises : Type 0 where
 
 -- No second outcome satisfies the statement of the call.
 pub record OneOutcome : Type 0 where
-  pub scrub : (image text a b s t : List ℕ) (r q : LinesAnswer) → Printed image text r a s → Printed image text q b t
+  pub scrub : (image text a b s t : List ℕ) (r q : Result ℕ Refusal) → Printed image text r a s → Printed image text q b t
       → (r ≡ q) × (a ≡ b) × (s ≡ t)

@@ -1,6 +1,6 @@
 -- What the private steps of the call compute, so that their contracts can say it. No promise to a caller cites this file. Assumes nothing.
-use Rattle.std.specs.Prelude.{◌≡◌, List, ◌++◌, ℕ, ◌+◌, ◌*◌, ◌≤◌, length, take}
-use Rattle.words.specs.Bytes.{laid}
+use Rattle.std.specs.Prelude.{◌≡◌, List, ◌++◌, ℕ, ◌+◌, ◌*◌, ◌≤◌, length}
+use Rattle.arrayvec.specs.ArrayVec.{ArrayVec, array_vec_len}
 use Rattle.card_scrub.specs.declared.Tallies.{Tallies}
 use Rattle.lines.specs.Text.{title_line, grids_line, blocks_line}
 
@@ -17,7 +17,7 @@ word_room word = length word + digits32
 
 -- .. for a line: the words, title or numbers, and the line end; ..
 abbrev pub title_room : List ℕ → ℕ
-title_room title = 7 + length title
+title_room title = 6 + length title + 1
 
 abbrev pub grids_room : ℕ
 grids_room = 42 + 6 * digits32
@@ -30,15 +30,13 @@ abbrev pub place_room : ℕ
 place_room = 4 + digits64
 
 abbrev pub refused_room : ℕ
-refused_room = 9 + digits32 + place_room
+refused_room = 8 + digits32 + place_room + 1
 
 -- the three lines, of a title and the tallies of a scrub
 abbrev pub lines_with : List ℕ → Tallies → List ℕ
 lines_with title t = title_line title ++ grids_line t.grids ++ blocks_line t.blocks
 
--- bytes laid over a text from a place on, at most so many, and the place behind them
-pub record Added (bytes : List ℕ) (most : ℕ) (text : List ℕ) (at r : ℕ) (exit : List ℕ) : Type 0 where
-  pub behind : r ≡ at + length bytes
-  pub few : length bytes ≤ most
-  pub after : exit ≡ laid (take at text ++ bytes) text
-  pub long : length exit ≡ length text
+-- bytes laid behind what stands in a text, at most so many
+pub record Added (bytes : List ℕ) (most : ℕ) (old new : ArrayVec ℕ) : Type 0 where
+  pub after : new.items ≡ old.items ++ bytes
+  pub few : array_vec_len new ≤ array_vec_len old + most

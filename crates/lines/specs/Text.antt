@@ -1,12 +1,10 @@
 -- What is printed of a scrub: three lines, or the one line of a refusal (docs/FORMAT.md, The bench). Assumes nothing.
-use Rattle.std.specs.Prelude.{List, [], ◌∷◌, ◌++◌, ℕ, zero, suc, ◌+◌, ◌/◌, ◌%◌, ltb}
+use Rattle.std.specs.Prelude.{List, [], ◌∷◌, ◌++◌, ℕ, zero, suc, ◌+◌, ◌/◌, ◌%◌, ltb, None, Option, Some}
 use Prim.Native.Char.{code}
 use Prim.Native.String as string
 use Prim.Native.String.{String}
 use Rattle.words.specs.Word.{choose}
 use Rattle.refusals.specs.declared.Refusal.{Refusal}
-use Rattle.refusals.specs.declared.Place.{Place}
-use Rattle.refusals.specs.declared.Place.TheVariants.{At, Nowhere}
 use Rattle.refusals.specs.Reply.{numbered, number_of, place_of}
 use Rattle.page.specs.declared.Tally.{Tally}
 use Rattle.page.specs.Tally.{grid_tally}
@@ -62,9 +60,9 @@ blocks_line t =
     ++ bytes "\n"
 
 -- the place of a refusal, if there is one
-abbrev pub place_text : Place → List ℕ
-place_text (At n) = labelled " at " n
-place_text Nowhere = []
+abbrev pub place_text : (Option ℕ) → List ℕ
+place_text (Some n) = labelled " at " n
+place_text None = []
 
 unfoldable pub refused_line : Refusal → List ℕ
 refused_line why = labelled "refused " (number_of (numbered why)) ++ place_text (place_of (numbered why)) ++ bytes "\n"

@@ -1,4 +1,5 @@
 -- What specs/Promises.antt says of a page's scrub holds: by the laws of the tally. Assumes nothing.
+use Rattle.std.specs.Prelude.{Err, Ok, Result}
 use mathlib.Core.Path.{◌≡◌, sym, ap, ◌∙◌, subst}
 use mathlib.Core.Bool.{Bool, true, false}
 use mathlib.Core.List.{List, [], map}
@@ -22,32 +23,31 @@ use Rattle.grid_code.specs.Verdict.{clean, grid_verdict, flips_of}
 use Rattle.grid_code.proofs.Promises as grid
 use Rattle.grid_code.proofs.Verdict.{mended_alike, blank_repaired}
 use Rattle.page.specs.declared.Tally.{Tally}
-use Rattle.page.specs.declared.PageAnswer.{PageAnswer}
-use Rattle.page.specs.declared.PageAnswer.TheVariants.{Done, Refused}
 use Rattle.page.specs.Answer.{means}
 use Rattle.page.specs.Tally.{last_from, grid_tally, AddsUp, Again}
 use Rattle.page.specs.Calls.{Scrubbed}
 use Rattle.page.specs.Promises.{PagePromises, OneOutcome}
 use Rattle.page.proofs.Counts.{tallies}
+use Rattle.refusals.specs.declared.Refusal.{Refusal}
 
 -- ---- both sides of the limit
 
-done : {page exit : List ℕ} {r : PageAnswer} → length page ≤ 512 → Scrubbed page r exit → (r ≡ Done (grid_tally page)) × (exit ≡ map (scrubbed code_of_grid) page)
+done : {page exit : List ℕ} {r : Result Tally Refusal} → length page ≤ 512 → Scrubbed page r exit → (r ≡ Ok (grid_tally page)) × (exit ≡ map (scrubbed code_of_grid) page)
 done {page} few s =
     let e : leb (length page) 512 ≡ true = le-leb (length page) 512 few in (
-      s.answer ∙ ap (λ (b : Bool). choose b (Done (grid_tally page)) (Refused Length)) e,
+      s.answer ∙ ap (λ (b : Bool). choose b (Ok (grid_tally page)) (Err Length)) e,
       s.after ∙ ap {B = List ℕ} (λ (b : Bool). choose b (map (scrubbed code_of_grid) page) page) e,
     )
 
-refused : {page exit : List ℕ} {r : PageAnswer} → 512 < length page → Scrubbed page r exit → (r ≡ Refused Length) × (exit ≡ page)
+refused : {page exit : List ℕ} {r : Result Tally Refusal} → 512 < length page → Scrubbed page r exit → (r ≡ Err Length) × (exit ≡ page)
 refused {page} more s =
     let e : leb (length page) 512 ≡ false = lt-leb (length page) 512 more in (
-      s.answer ∙ ap (λ (b : Bool). choose b (Done (grid_tally page)) (Refused Length)) e,
+      s.answer ∙ ap (λ (b : Bool). choose b (Ok (grid_tally page)) (Err Length)) e,
       s.after ∙ ap {B = List ℕ} (λ (b : Bool). choose b (map (scrubbed code_of_grid) page) page) e,
     )
 
 -- what was done, ..
-pub was_done : (page exit : List ℕ) (t : Tally) → Scrubbed page (Done t) exit
+pub was_done : (page exit : List ℕ) (t : Tally) → Scrubbed page (Ok t) exit
     → (length page ≤ 512) × (t ≡ grid_tally page) × (exit ≡ map (scrubbed code_of_grid) page)
 was_done page exit t s = go (dec_le (length page) 512)
   where
@@ -56,20 +56,20 @@ was_done page exit t s = go (dec_le (length page) 512)
     go (no many) = let (e, x) = refused (omega arith) s in let z : ◌≡◌ {A = ℕ} 0 1 = cc in absurd (omega arith)
 
 -- .. and is given
-given : (page exit : List ℕ) (r : PageAnswer) (t : Tally) → Scrubbed page r exit → means r ≡ gives t
+given : (page exit : List ℕ) (r : Result Tally Refusal) (t : Tally) → Scrubbed page r exit → means r ≡ gives t
     → (length page ≤ 512) × (t ≡ grid_tally page) × (exit ≡ map (scrubbed code_of_grid) page)
-given page exit (Done u) t s e =
+given page exit (Ok u) t s e =
     let (few, is, x) = was_done page exit u s in
     let same : u ≡ t = cc in
     (few, sym same ∙ is, x)
-given page exit (Refused why) t s e = nothing_given why e
+given page exit (Err why) t s e = nothing_given why e
 
 -- ---- a clean grid stays as it is
 
 clean_kept : (w d : ℕ) → grid_verdict w ≡ clean d → scrubbed code_of_grid w ≡ w
 clean_kept w d e = unflipped code_of_grid (grid.promised).verdicts w (sym ((grid.promised).flips w) ∙ ap flips_of e)
 
-length_kept : (page exit : List ℕ) (r : PageAnswer) → Scrubbed page r exit → length exit ≡ length page
+length_kept : (page exit : List ℕ) (r : Result Tally Refusal) → Scrubbed page r exit → length exit ≡ length page
 length_kept page exit r s = go (dec_le (length page) 512)
   where
     go : Dec (length page ≤ 512) → length exit ≡ length page
@@ -78,7 +78,7 @@ length_kept page exit r s = go (dec_le (length page) 512)
 
 -- ---- the second scrub
 
-again : (page once twice : List ℕ) (r s : PageAnswer) (t : Tally) → Scrubbed page r once → means r ≡ gives t → Scrubbed once s twice
+again : (page once twice : List ℕ) (r s : Result Tally Refusal) (t : Tally) → Scrubbed page r once → means r ≡ gives t → Scrubbed once s twice
     → (u : Tally) × (means s ≡ gives u) × Again t u × (twice ≡ once)
 again page once twice r s t p e q =
     let (few, is, a) = given page once r t p e in
@@ -89,7 +89,7 @@ again page once twice r s t p e q =
     let unchanged = (codes.tallies code_of_grid (grid.promised).verdicts).unchanged in
     (grid_tally once, ap means v, second, b ∙ ap (map (scrubbed code_of_grid)) a ∙ map_twice (scrubbed code_of_grid) unchanged page ∙ sym a)
 
-empty : (exit : List ℕ) (r : PageAnswer) → Scrubbed [] r exit
+empty : (exit : List ℕ) (r : Result Tally Refusal) → Scrubbed [] r exit
     → (means r ≡ gives (record { grids = 0; clean = 0; blank = 0; mended = 0; lost = 0; flips = 0; pattern = 0 })) × (exit ≡ [])
 unfolding sum_by last_from
 empty exit r s = (ap means (done (lit≤ tt) s).0, (done (lit≤ tt) s).1)

@@ -17,8 +17,8 @@ use grid::{Grid, Verdict};
 use refusals::Refusal;
 
 // The six numbers of a scrub; flips is the sum over mended and blank grids. And beside them, which is no seventh number, the pattern of the
-// last mended grid: the places that were flipped there. It is zero where none is mended.
-#[derive(Drop)]
+// last mended grid: the places that were flipped there. It is zero where none is mended, as `no_last` promises.
+#[derive(Clone, Copy, Debug, Default, PartialEq, Eq)]
 pub struct Tally {
     pub grids: u32,
     pub clean: u32,
@@ -32,13 +32,6 @@ pub struct Tally {
 // The most grids of a page.
 pub const MOST_GRIDS: usize = 512;
 
-// The answer of a scrub. A page is refused for its length alone.
-#[derive(Drop)]
-pub enum PageAnswer {
-    Done(Tally),
-    Refused(Refusal),
-}
-
 // A grid put right, and the tally with it.
 #[derive(Drop)]
 struct Step {
@@ -51,15 +44,7 @@ impl Tally {
     pub fn none() -> Tally
         ensures { NoGrids result }
     {
-        Tally {
-            grids: 0,
-            clean: 0,
-            blank: 0,
-            mended: 0,
-            lost: 0,
-            flips: 0,
-            pattern: 0,
-        }
+        Tally::default()
     }
 
     // One more verdict, and its pattern, which is kept where it is mended.
@@ -68,22 +53,22 @@ impl Tally {
         ensures { result ≡ counted self (verdict_of verdict) pattern }
     {
         let mut next = self;
-        next.grids = next.grids + 1;
+        next.grids += 1;
         match verdict {
             Verdict::Clean(_) => {
-                next.clean = next.clean + 1;
+                next.clean += 1;
             }
             Verdict::Blank { flips } => {
-                next.blank = next.blank + 1;
-                next.flips = next.flips + flips;
+                next.blank += 1;
+                next.flips += flips;
             }
             Verdict::Mended { data: _, flips } => {
-                next.mended = next.mended + 1;
-                next.flips = next.flips + flips;
+                next.mended += 1;
+                next.flips += flips;
                 next.pattern = pattern;
             }
             Verdict::Lost => {
-                next.lost = next.lost + 1;
+                next.lost += 1;
             }
         }
         next
@@ -94,7 +79,7 @@ impl Tally {
         requires { Roomy self (grid_verdict word) }
         ensures { (result.word ≡ scrubbed code_of_grid word) × (result.tally ≡ counted self (grid_verdict word) (pattern_of code_of_grid word)) }
     {
-        let grid = Grid::of_number(word);
+        let grid = Grid::from(word);
         if grid.is_codeword() {
             if word == grid_code::ALL_ONES {
                 return Step {
@@ -108,12 +93,9 @@ impl Tally {
             };
         }
         let answer = grid.mend();
-        let verdict = answer.verdict;
-        let repaired = answer.grid;
-        let number = repaired.number();
         Step {
-            word: number,
-            tally: self.counted(verdict, answer.pattern),
+            word: u64::from(answer.grid),
+            tally: self.counted(answer.verdict, answer.pattern),
         }
     }
 }
@@ -124,26 +106,22 @@ fn each(page: &mut [u64]) -> Tally
     ensures { (result ≡ grid_tally page.old) × (page.new ≡ map (scrubbed code_of_grid) page.old) }
 {
     let mut tally = Tally::none();
-    let mut i: usize = 0;
-    while i < page.len() {
-        let word = page[i];
-        let step = tally.with_grid(word);
-        let number = step.word;
+    for word in page {
+        let step = tally.with_grid(*word);
         tally = step.tally;
-        if number != word {
-            page[i] = number;
+        if step.word != *word {
+            *word = step.word;
         }
-        i += 1;
     }
     tally
 }
 
 // Scrubs a page of 0 to 512 grids. A longer one is refused, and nothing is written.
-pub fn scrub(page: &mut [u64]) -> PageAnswer
+pub fn scrub(page: &mut [u64]) -> Result<Tally, Refusal>
     ensures { Scrubbed page.old result page.new }
 {
     if page.len() > MOST_GRIDS {
-        return PageAnswer::Refused(Refusal::Length);
+        return Err(Refusal::Length);
     }
-    PageAnswer::Done(each(page))
+    Ok(each(page))
 }

@@ -1,9 +1,7 @@
 -- The table of refusals (docs/FORMAT.md, The refusals), and what a call says in its terms. Assumes nothing.
-use Rattle.std.specs.Prelude.{ℕ}
+use Rattle.std.specs.Prelude.{ℕ, None, Option, Some, Result, Ok, Err}
 use Rattle.refusals.specs.declared.Refusal.{Refusal}
 use Rattle.refusals.specs.declared.Refusal.TheVariants.{LostGrid, LostBlock, Length, Broken, Room, Erased}
-use Rattle.refusals.specs.declared.Place.{Place}
-use Rattle.refusals.specs.declared.Place.TheVariants.{At, Nowhere}
 
 -- a number of the table, alone or with a place
 pub data Number : Type 0 where
@@ -23,11 +21,11 @@ abbrev pub number_of : Number → ℕ
 number_of (bare n) = n
 number_of (placed n at) = n
 
-abbrev pub place_of : Number → Place
-place_of (bare n) = Nowhere
-place_of (placed n at) = At at
+abbrev pub place_of : Number → (Option ℕ)
+place_of (bare n) = None
+place_of (placed n at) = Some at
 
--- What a call says: it gives values, or it refuses.
+-- What a call says, in the terms of the table: it gives values, or it refuses.
 pub data Reply (A : Type 0) : Type 0 where
   gives : A → Reply A
   refused : Number → Reply A
@@ -43,7 +41,12 @@ refuses_at n at = refused (placed n at)
 abbrev pub refusal : {A : Type 0} → Refusal → Reply A
 refusal why = refused (numbered why)
 
--- the number of a reply, and 0 where nothing is refused
+-- what is said by an answer that is a value or a refusal, ..
+abbrev pub reply : {A : Type 0} → Result A Refusal → Reply A
+reply (Ok a) = gives a
+reply (Err why) = refusal why
+
+-- .. and the number of a reply, 0 where nothing is refused
 abbrev pub number_in : {A : Type 0} → Reply A → ℕ
 number_in (gives a) = 0
 number_in (refused k) = number_of k

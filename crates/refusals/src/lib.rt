@@ -1,5 +1,5 @@
-// The refusals (docs/FORMAT.md): one list for every call. A call that can refuse answers `Done`, with what it gives, or `Refused` with one
-// of these, and a refusal passes through its callers whole.
+// The refusals (docs/FORMAT.md): one list for every call. A call that can refuse answers `Ok`, with what it gives, or `Err` with one of
+// these, and a refusal passes through its callers whole.
 //
 // specs/Reply.antt has the table, and what an answer says in its terms; specs/Calls.antt what each call here promises.
 #![tactic(auto)]
@@ -7,7 +7,7 @@
 ghost use Rattle.refusals.specs.Calls.{TableNumber, TablePlace};
 
 // A case for each number of the table. Broken has the place of the break: an offset in an image, or a byte's place in a title.
-#[derive(Clone, Copy)]
+#[derive(Clone, Copy, Debug, PartialEq, Eq, Hash)]
 pub enum Refusal {
     LostGrid,
     LostBlock,
@@ -17,15 +17,8 @@ pub enum Refusal {
     Erased,
 }
 
-// Where a refusal is, if the table names a place for it.
-#[derive(Drop)]
-pub enum Place {
-    At(usize),
-    Nowhere,
-}
-
 impl Refusal {
-    // Its number in the table.
+    // Its number in the table, which C and the bench show.
     pub fn number(self) -> u32
         ensures { TableNumber self result }
     {
@@ -39,17 +32,17 @@ impl Refusal {
         }
     }
 
-    // The place that is returned with it.
-    pub fn place(self) -> Place
+    // The place that is returned with it, where the table names one.
+    pub fn place(self) -> Option<usize>
         ensures { TablePlace self result }
     {
         match self {
-            Refusal::LostGrid => Place::Nowhere,
-            Refusal::LostBlock => Place::Nowhere,
-            Refusal::Length => Place::Nowhere,
-            Refusal::Broken(at) => Place::At(at),
-            Refusal::Room => Place::Nowhere,
-            Refusal::Erased => Place::Nowhere,
+            Refusal::Broken(at) => Some(at),
+            Refusal::LostGrid
+            | Refusal::LostBlock
+            | Refusal::Length
+            | Refusal::Room
+            | Refusal::Erased => None,
         }
     }
 }

@@ -11,7 +11,8 @@ ghost use Rattle.value_read.specs.Steps.{ReadValue};
 
 use grid::{Grid, Verdict};
 
-// What is shown of a grid.
+// What is shown of a grid. No Option: 0 and 255 of a lost grid, and 128 more of a blank one, are the order's (docs/FORMAT.md, Reading
+// back).
 #[derive(Drop)]
 struct Shown {
     pub number: u16,
@@ -22,9 +23,7 @@ fn show(grid: Grid) -> Shown
     ensures number_value { result.number ≡ data_of_grid (joined 8 grid.rows) }
     ensures flips { result.flips ≡ flips_of_grid (joined 8 grid.rows) }
 {
-    let answer = grid.decode();
-    let verdict = answer.verdict;
-    match verdict {
+    match grid.decode().verdict {
         Verdict::Clean(data) => Shown {
             number: data,
             flips: 0,
@@ -48,19 +47,17 @@ fn show(grid: Grid) -> Shown
 pub fn grids(value: &[u8], numbers: &mut [u16], flips: &mut [u8])
     ensures { ReadValue value.now numbers.old flips.old numbers.new flips.new }
 {
-    let n = value.len() / 8;
-    if numbers.len() < n {
+    let (grids, _) = value.as_chunks::<8>();
+    if numbers.len() < grids.len() {
         return;
     }
-    if flips.len() < n {
+    if flips.len() < grids.len() {
         return;
     }
-    let mut i: usize = 0;
-    while i < n {
-        let at = 8 * i;
-        let grid = show(values::grid(&value[at..]));
-        numbers[i] = grid.number;
-        flips[i] = grid.flips;
-        i += 1;
+    // By index: no proof knows what a slice holds after a zip on `iter_mut`.
+    for (i, rows) in grids.iter().enumerate() {
+        let shown = show(Grid { rows: *rows });
+        numbers[i] = shown.number;
+        flips[i] = shown.flips;
     }
 }

@@ -1,5 +1,8 @@
 -- What a scrub makes of the grids and of the block in a value. Assumes nothing.
+use Rattle.std.specs.Prelude.{Err, Ok, Result}
 use Rattle.std.proofs.Common.{◌≡◌, ℕ, ◌+◌, ◌*◌, ◌/◌, ◌%◌, ◌≤◌, Bool, true, false, List, [], ◌∷◌, ◌++◌, map, length, take, drop, sym, refl, ap, ◌∙◌, subst, ap₂, append_assoc, mod-eq_of_lt, arith, lit<, length-append, length-drop, length-take-le, drop-drop, take_at, take-add, drop_at, eq-eqb, ne_eqb}
+use Rattle.std.specs.Prelude.{min}
+use Rattle.std.proofs.lemmas.List.{take_min, drop_min}
 use mathlib.Core.List.{map-append}
 use lib.ListN.{length-map}
 use Rattle.words.specs.Word.{choose}
@@ -14,7 +17,6 @@ use Rattle.codes.proofs.Tally.{unflipped, tallies}
 use Rattle.grid_code.specs.Code.{code_of_grid}
 use Rattle.grid_code.specs.Verdict.{flips_of}
 use Rattle.page.specs.declared.Tally.{Tally}
-use Rattle.page.specs.declared.PageAnswer.TheVariants.{Done as PageDone}
 use Rattle.page.specs.Tally.{sum_grids, last_from, grid_tally}
 use Rattle.page.specs.Calls.{NoGrids, Scrubbed}
 use Rattle.page.specs.Steps.{Small, plus}
@@ -26,19 +28,28 @@ use Rattle.block.specs.Answer.{answer_of}
 use Rattle.block.specs.Calls as block
 use Rattle.block.specs.declared.BlockVerdict.TheVariants.{Clean, Mended}
 use Rattle.block.specs.declared.Scrub.{Scrub}
-use Rattle.block.specs.declared.BlockAnswer.{BlockAnswer}
-use Rattle.block.specs.declared.BlockAnswer.TheVariants.{Done, Refused}
 use Rattle.fields.specs.Fields.{is_grids}
-use Rattle.values.specs.Steps.{grids_of, Put}
-use Rattle.values.proofs.Fits.{put_there}
+use Rattle.values.specs.Steps.{grids_of, Taken, Put}
+use Rattle.values.proofs.Fits.{taken_there, put_there}
 use Rattle.value_scrub.specs.declared.Blocks.{Blocks}
 use Rattle.value_scrub.specs.Tally.{of_blocks, block_tally}
 use Rattle.value_scrub.specs.Steps.{NoBlocks, wrapped_grids, Added, ScrubbedGrids, ScrubbedBlock, AnyGrids, AnyBlock}
+use Rattle.block.specs.declared.BlockVerdict.{BlockVerdict}
+use Rattle.refusals.specs.declared.Refusal.{Refusal}
 
 -- ---- by way of a page
 
-module _ (value page after : List ℕ) (n : ℕ) (t : Tally) (fits : length value ≡ 8 * n) (bytes : Below 8 value)
-    (taken : page ≡ words_in 8 n value) (done : Scrubbed page (PageDone t) after) where
+module _ (value before page after : List ℕ) {r : Result Tally Refusal} {t : Tally} (fits : length value ≡ 8 * length before) (bytes : Below 8 value)
+    (read : Taken 8 value before page) (scrub : Scrubbed page r after) (is : r ≡ Ok t) where
+  abbrev n : ℕ
+  n = length before
+
+  taken : page ≡ words_in 8 n value
+  taken = taken_there 8 value before page fits read
+
+  done : Scrubbed page (Ok t) after
+  done = subst (λ r. Scrubbed page r after) is scrub
+
   size : length value / 8 ≡ n
   size = omega (arith, fits)
 
@@ -52,8 +63,8 @@ module _ (value page after : List ℕ) (n : ℕ) (t : Tally) (fits : length valu
   still = fits ∙ ap (λ n. 8 * n) (sym (ap length ((was_done page after t done).2 ∙ ap (map (scrubbed code_of_grid)) taken)
       ∙ length-map (words_in 8 n value) (scrubbed code_of_grid) ∙ length-words 8 n value))
 
-  pub page_written : (exit : List ℕ) → Put 8 after value exit → ScrubbedGrids value t exit
-  page_written exit e = record {
+  pub page_written : {exit : List ℕ} → Put 8 after value exit → ScrubbedGrids value t exit
+  page_written {exit} e = record {
     answer = tally;
     after = put_there 8 value after exit still e ∙ ap (bytes_of 8) ((was_done page after t done).2 ∙ ap (map (scrubbed code_of_grid)) words);
   }
@@ -155,12 +166,21 @@ module _ (value now : List ℕ) (at n m : ℕ) (t r u : Tally) (page : List ℕ)
   pub page_more : (length next ≡ length value) × ScrubbedGrids (take (at + 8 * n) value) u (take (at + 8 * n) next) × (drop (at + 8 * n) next ≡ drop (at + 8 * n) value)
   page_more = (next_long, next_front, next_behind)
 
+-- as far as the end of the page, or of the value
+pub to_page_end : (value next : List ℕ) (u : Tally) (n end : ℕ) → end ≡ min n (length value)
+    → (length next ≡ length value) × ScrubbedGrids (take end value) u (take end next) × (drop end next ≡ drop end value)
+    → ScrubbedGrids (take n value) u (take n next) × (drop n next ≡ drop n value)
+to_page_end value next u n end is (long, front, behind) =
+    let there : end ≡ min n (length next) = is ∙ ap (min n) (sym long) in
+    let t : take end value ≡ take n value = ap (λ (k : ℕ). take k value) is ∙ take_min n value in
+    let t' : take end next ≡ take n next = ap (λ (k : ℕ). take k next) there ∙ take_min n next in
+    let d : drop end value ≡ drop n value = ap (λ (k : ℕ). drop k value) is ∙ drop_min n value in
+    let d' : drop end next ≡ drop n next = ap (λ (k : ℕ). drop k next) there ∙ drop_min n next in
+    (subst (λ b. ScrubbedGrids b u (take n next)) t (subst (λ b. ScrubbedGrids (take end value) u b) t' front), sym d' ∙ behind ∙ d)
+
 -- ---- any value
 
 module _ (value exit : List ℕ) (r : Tally) where
-  pub fits_grids : is_grids (length value) ≡ true → ScrubbedGrids value r exit → AnyGrids value r exit
-  fits_grids h x = record { answer = rw h x.answer; after = rw h x.after }
-
   pub fitting_grids : is_grids (length value) ≡ true → AnyGrids value r exit → ScrubbedGrids value r exit
   fitting_grids h x = record { answer = x.answer ∙ (rw h); after = x.after ∙ (rw h) }
 
@@ -169,9 +189,6 @@ unfolding sum_by last_from
 other_grids value r h none = record { answer = rw h none.answer; after = rw h }
 
 module _ (value exit : List ℕ) (r : Blocks) (h : length value ≡ 76) where
-  pub fits_block : ScrubbedBlock value r exit → AnyBlock value r exit
-  fits_block x = let e = eq-eqb (length value) 76 h in record { answer = rw e x.answer; after = rw e x.after }
-
   pub fitting_block : AnyBlock value r exit → ScrubbedBlock value r exit
   fitting_block x = let e = eq-eqb (length value) 76 h in record { answer = x.answer ∙ (rw e); after = x.after ∙ (rw e) }
 
@@ -182,10 +199,10 @@ other_block value r h none = let e = ne_eqb (length value) 76 h in record { answ
 -- ---- a block
 
 -- what a block's answer counts, ..
-abbrev pub of_answer : BlockAnswer → Blocks
-of_answer (Done Clean) = record { blocks = 1; clean = 1; mended = 0; lost = 0; flips = 0 }
-of_answer (Done (Mended n)) = record { blocks = 1; clean = 0; mended = 1; lost = 0; flips = n }
-of_answer (Refused why) = record { blocks = 1; clean = 0; mended = 0; lost = 1; flips = 0 }
+abbrev pub of_answer : (Result BlockVerdict Refusal) → Blocks
+of_answer (Ok Clean) = record { blocks = 1; clean = 1; mended = 0; lost = 0; flips = 0 }
+of_answer (Ok (Mended n)) = record { blocks = 1; clean = 0; mended = 1; lost = 0; flips = n }
+of_answer (Err why) = record { blocks = 1; clean = 0; mended = 0; lost = 1; flips = 0 }
 
 -- .. and its verdict does
 answered : (v : Verdict) → of_answer (answer_of v) ≡ of_blocks (tally_of_one v)
@@ -193,19 +210,22 @@ answered (clean d) = refl
 answered (mended d n) = refl
 answered lost = refl
 
-module _ (value words after : List ℕ) (r : Scrub) (fits : length value ≡ 76) (bytes : Below 8 value) (taken : words ≡ words_in 2 38 value)
-    (done : block.Scrubbed words r after) where
+module _ (value before words after : List ℕ) {r : Scrub} {a : Result BlockVerdict Refusal} (fits : (length value ≡ 76) × (length before ≡ 38))
+    (bytes : Below 8 value) (read : Taken 2 value before words) (done : block.Scrubbed words r after) (is : r.answer ≡ a) where
   w : ℕ
   w = joined 16 (words_in 2 38 value)
 
+  as_words : words ≡ words_in 2 38 value
+  as_words = taken_there 2 value before words (omega (arith, fits)) read ∙ ap (λ (n : ℕ). words_in 2 n value) fits.1
+
   thirty_eight : length words ≡ 38
-  thirty_eight = ap length taken ∙ length-words 2 38 value
+  thirty_eight = ap length as_words ∙ length-words 2 38 value
 
   told : r.answer ≡ answer_of (verdict code_of_block w)
   unfolding w
   told =
-      done.answer ∙ ap (λ (b : Bool). choose b (answer_of (verdict code_of_block (joined 16 words))) (Refused Length)) (eq-eqb (length words) 38 thirty_eight)
-      ∙ ap (λ l. answer_of (verdict code_of_block (joined 16 l))) taken
+      done.answer ∙ ap (λ (b : Bool). choose b (answer_of (verdict code_of_block (joined 16 words))) (Err Length)) (eq-eqb (length words) 38 thirty_eight)
+      ∙ ap (λ l. answer_of (verdict code_of_block (joined 16 l))) as_words
 
   answer : of_answer r.answer ≡ block_tally (w ∷ [])
   answer = ap of_answer told ∙ answered (verdict code_of_block w) ∙ sym (ap of_blocks ((tallies code_of_block (blocks.promised).verdicts).one w))
@@ -215,23 +235,23 @@ module _ (value words after : List ℕ) (r : Scrub) (fits : length value ≡ 76)
   is_after =
       done.after
       ∙ ap {B = List ℕ} (λ (b : Bool). choose b (digits 16 38 (scrubbed code_of_block (joined 16 words))) words) (eq-eqb (length words) 38 thirty_eight)
-      ∙ ap (λ l. digits 16 38 (scrubbed code_of_block (joined 16 l))) taken
+      ∙ ap (λ l. digits 16 38 (scrubbed code_of_block (joined 16 l))) as_words
 
-  pub words_written : (exit : List ℕ) → Put 2 after value exit → ScrubbedBlock value (of_answer r.answer) exit
+  pub words_written : {exit : List ℕ} → Put 2 after value exit → ScrubbedBlock value (of_answer a) exit
   unfolding w
-  words_written exit e = record {
-    answer = answer;
+  words_written {exit} e = record {
+    answer = ap of_answer (sym is) ∙ answer;
     after =
-        put_there 2 value after exit (omega (arith, fits, ap length is_after, length_digits 16 38 (scrubbed code_of_block w))) e
+        put_there 2 value after exit (omega (arith, fits.0, ap length is_after, length_digits 16 38 (scrubbed code_of_block w))) e
         ∙ ap (bytes_of 2) is_after;
   }
 
-  pub words_kept : (of_answer r.answer).flips ≡ 0 → ScrubbedBlock value (of_answer r.answer) value
+  pub words_kept : (of_answer a).flips ≡ 0 → ScrubbedBlock value (of_answer a) value
   unfolding w
   words_kept z = record {
-    answer = answer;
+    answer = ap of_answer (sym is) ∙ answer;
     after =
-        sym (ap (λ (x : ℕ). bytes_of 2 (digits 16 38 x)) (unflipped code_of_block (blocks.promised).verdicts w (sym (ap (λ t. t.flips) (ap of_answer told ∙ answered (verdict code_of_block w))) ∙ z))
-        ∙ ap (bytes_of 2) (digits-joined 16 38 (words_in 2 38 value) (length-words 2 38 value) (words_below 2 38 value (omega (arith, fits)) bytes))
-        ∙ bytes-words 2 38 value fits bytes);
+        sym (ap (λ (x : ℕ). bytes_of 2 (digits 16 38 x)) (unflipped code_of_block (blocks.promised).verdicts w (sym (ap (λ t. t.flips) (ap of_answer (sym is ∙ told) ∙ answered (verdict code_of_block w))) ∙ z))
+        ∙ ap (bytes_of 2) (digits-joined 16 38 (words_in 2 38 value) (length-words 2 38 value) (words_below 2 38 value (omega (arith, fits.0)) bytes))
+        ∙ bytes-words 2 38 value fits.0 bytes);
   }

@@ -1,3 +1,4 @@
 pub mod Tally
 pub mod Steps
+pub mod Sums
 pub mod Outcomes

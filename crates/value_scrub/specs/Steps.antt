@@ -1,5 +1,5 @@
 -- What the scrub of a value computes, so that the contracts can say it. No promise to a caller cites this file. Assumes nothing.
-use Rattle.std.specs.Prelude.{◌≡◌, ℕ, ◌%◌, ◌^◌, List, [], ◌∷◌, map, length, ◌==◌}
+use Rattle.std.specs.Prelude.{◌≡◌, ℕ, ◌%◌, ◌^◌, List, [], ◌∷◌, map, length, eqb}
 use Rattle.words.specs.Word.{choose}
 use Rattle.words.specs.Digits.{digits, joined}
 use Rattle.words.specs.Bytes.{words_in, bytes_of}
@@ -8,11 +8,12 @@ use Rattle.grid_code.specs.Code.{code_of_grid}
 use Rattle.page.specs.declared.Tally.{Tally}
 use Rattle.page.specs.Tally.{grid_tally}
 use Rattle.page.specs.Steps.{plus}
+use Rattle.codes.specs.Steps.{plus as plus_counted}
 use Rattle.block_code.specs.Code.{code_of_block}
 use Rattle.fields.specs.Fields.{block_bytes, is_grids}
 use Rattle.values.specs.Steps.{grids_of}
 use Rattle.value_scrub.specs.declared.Blocks.{Blocks}
-use Rattle.value_scrub.specs.Tally.{block_tally}
+use Rattle.value_scrub.specs.Tally.{of_blocks, tally_in, block_tally}
 
 -- ---- tallies
 
@@ -36,15 +37,24 @@ wrapped_grids t = record {
 abbrev pub added : Tally → Tally → Tally
 added a b = wrapped_grids (plus a b)
 
--- `value_scrub::both`: two tallies, added up.
+-- `value_scrub::Count::plus` of tallies: two, added up.
 pub record Added (a b r : Tally) : Type 0 where
   pub answer : r ≡ added a b
 
--- ---- values
+-- the same of blocks
+abbrev pub wrapped_blocks : Blocks → Blocks
+wrapped_blocks t = record {
+  blocks = t.blocks % 2 ^ 32;
+  clean = t.clean % 2 ^ 32;
+  mended = t.mended % 2 ^ 32;
+  lost = t.lost % 2 ^ 32;
+  flips = t.flips % 2 ^ 32;
+}
 
--- the grids that are laid out at a time
-abbrev pub page_grids : ℕ
-page_grids = 64
+abbrev pub added_blocks : Blocks → Blocks → Blocks
+added_blocks a b = wrapped_blocks (of_blocks (plus_counted (tally_in a) (tally_in b)))
+
+-- ---- values
 
 pub record ScrubbedGrids (value : List ℕ) (r : Tally) (exit : List ℕ) : Type 0 where
   pub answer : r ≡ grid_tally (grids_of value)
@@ -61,5 +71,6 @@ pub record AnyGrids (value : List ℕ) (r : Tally) (exit : List ℕ) : Type 0 wh
 
 -- `value_scrub::block`: the same for the value of a block field.
 pub record AnyBlock (value : List ℕ) (r : Blocks) (exit : List ℕ) : Type 0 where
-  pub answer : r ≡ choose ((length value) == block_bytes) (block_tally (joined 16 (words_in 2 38 value) ∷ [])) (block_tally [])
-  pub after : exit ≡ choose ((length value) == block_bytes) (bytes_of 2 (digits 16 38 (scrubbed code_of_block (joined 16 (words_in 2 38 value))))) value
+  pub answer : r ≡ choose (eqb (length value) block_bytes) (block_tally (joined 16 (words_in 2 38 value) ∷ [])) (block_tally [])
+  pub after : exit
+      ≡ choose (eqb (length value) block_bytes) (bytes_of 2 (digits 16 38 (scrubbed code_of_block (joined 16 (words_in 2 38 value))))) value

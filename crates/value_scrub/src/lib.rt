@@ -9,13 +9,14 @@ ghost use Rattle.std.specs.Prelude.{◌≡◌, ◌*◌, ◌%◌, ◌<◌, ◌≤
 ghost use Rattle.page.specs.Calls.{most_grids};
 ghost use Rattle.page.specs.Steps.{later};
 ghost use Rattle.fields.specs.Fields.{grids_most, block_bytes};
-ghost use Rattle.value_scrub.specs.Steps.{NoBlocks, Added, ScrubbedGrids, ScrubbedBlock, AnyGrids, AnyBlock, page_grids};
+ghost use Rattle.value_scrub.specs.Steps.{NoBlocks, added, added_blocks, ScrubbedGrids, ScrubbedBlock, AnyGrids, AnyBlock};
+ghost use Rattle.value_scrub.specs.Sums.{added_again, added_blocks_again};
 
-use block::{Block, BlockAnswer, BlockVerdict};
-use page::{PageAnswer, Tally};
+use block::{Block, BlockVerdict};
+use page::Tally;
 
 // The five numbers of a scrub, of blocks. Flips is the sum over mended blocks.
-#[derive(Drop)]
+#[derive(Clone, Copy, Debug, Default, PartialEq, Eq)]
 pub struct Blocks {
     pub blocks: u32,
     pub clean: u32,
@@ -27,20 +28,15 @@ pub struct Blocks {
 // The grids that are laid out at a time: half a kilobyte of stack.
 const PAGE_GRIDS: usize = 64;
 
-// The tally of no blocks.
+// The tally of no blocks, what `Blocks::default()` is: its own name stays, which the theorem `OneOutcome.no_blocks` speaks of.
 pub fn no_blocks() -> Blocks
     ensures { NoBlocks result }
 {
-    Blocks {
-        blocks: 0,
-        clean: 0,
-        mended: 0,
-        lost: 0,
-        flips: 0,
-    }
+    Blocks::default()
 }
 
-// Which of two parts' patterns is passed on: that of the part behind, unless nothing was mended there. A mended grid's is never zero.
+// Which of two parts' patterns is passed on: that of the part behind, unless nothing was mended there. A mended grid's is never zero, and
+// zero is no pattern, as the theorems `PagePromises.no_last` of page and `ScrubPromises.no_last` of card say.
 fn later(before: u64, behind: u64) -> u64
     ensures { result ≡ later before behind }
 {
@@ -50,18 +46,48 @@ fn later(before: u64, behind: u64) -> u64
     behind
 }
 
-// The tallies of two parts, one behind the other, added up. The sums wrap, so that there are no two tallies that it does not accept.
-pub fn both(here: Tally, there: Tally) -> Tally
-    ensures { Added here there result }
-{
-    Tally {
-        grids: std::num::wrapping_add_u32(here.grids, there.grids),
-        clean: std::num::wrapping_add_u32(here.clean, there.clean),
-        blank: std::num::wrapping_add_u32(here.blank, there.blank),
-        mended: std::num::wrapping_add_u32(here.mended, there.mended),
-        lost: std::num::wrapping_add_u32(here.lost, there.lost),
-        flips: std::num::wrapping_add_u32(here.flips, there.flips),
-        pattern: later(here.pattern, there.pattern),
+// What was counted in parts that stand one behind the other.
+pub trait Count {
+    ghost sum: { Self → Self → Self };
+
+    // Both counts added up. The sums wrap, so that there are no two that it does not accept.
+    fn plus(self, behind: Self) -> Self
+        ensures { result ≡ sum self behind };
+
+    ghost associative: { (a b c : Self) → sum a (sum b c) ≡ sum (sum a b) c };
+}
+
+impl Count for Tally {
+    ghost sum = { added };
+
+    ghost associative = { added_again };
+
+    fn plus(self, behind: Tally) -> Tally {
+        Tally {
+            grids: self.grids.wrapping_add(behind.grids),
+            clean: self.clean.wrapping_add(behind.clean),
+            blank: self.blank.wrapping_add(behind.blank),
+            mended: self.mended.wrapping_add(behind.mended),
+            lost: self.lost.wrapping_add(behind.lost),
+            flips: self.flips.wrapping_add(behind.flips),
+            pattern: later(self.pattern, behind.pattern),
+        }
+    }
+}
+
+impl Count for Blocks {
+    ghost sum = { added_blocks };
+
+    ghost associative = { added_blocks_again };
+
+    fn plus(self, behind: Blocks) -> Blocks {
+        Blocks {
+            blocks: self.blocks.wrapping_add(behind.blocks),
+            clean: self.clean.wrapping_add(behind.clean),
+            mended: self.mended.wrapping_add(behind.mended),
+            lost: self.lost.wrapping_add(behind.lost),
+            flips: self.flips.wrapping_add(behind.flips),
+        }
     }
 }
 
@@ -70,40 +96,30 @@ fn by_page(value: &mut [u8], page: &mut [u64]) -> Tally
     requires { (length value.old ≡ 8 * length page.old) × (length page.old ≤ most_grids) }
     ensures { ScrubbedGrids value.old result value.new }
 {
-    values::grids(value, page);
+    values::read(value, page);
     match page::scrub(page) {
-        PageAnswer::Done(tally) => {
+        Ok(tally) => {
             if tally.flips > 0 {
-                values::put_grids(value, page);
+                values::write(value, page);
             }
             tally
         }
-        PageAnswer::Refused(_) => Tally::none(),
+        Err(_) => Tally::none(),
     }
-}
-
-// How many of the grids that are left go into the next page.
-fn next_page(left: usize) -> usize
-    ensures { (result ≤ left) × (result ≤ page_grids) × (0 < left → 0 < result) }
-{
-    if left < PAGE_GRIDS {
-        return left;
-    }
-    PAGE_GRIDS
 }
 
 // Grids, a page at a time.
-fn by_pages(value: &mut [u8], page: &mut [u64]) -> Tally
-    requires { (length value.old ≤ grids_most) × (length value.old % 8 ≡ 0) × (length page.old ≡ page_grids) }
+fn by_pages(value: &mut [u8], page: &mut [u64; PAGE_GRIDS]) -> Tally
+    requires { (length value.old ≤ grids_most) × (length value.old % 8 ≡ 0) }
     ensures { ScrubbedGrids value.old result value.new }
 {
     let mut tally = Tally::none();
-    let mut at: usize = 0;
-    while at < value.len() {
-        let n = next_page((value.len() - at) / 8);
-        let end = at + 8 * n;
-        tally = both(tally, by_page(&mut value[at..end], &mut page[..n]));
-        at = end;
+    // By number: no proof knows what a slice holds after `chunks_mut`.
+    for k in 0..value.len().div_ceil(8 * PAGE_GRIDS) {
+        let at = 8 * PAGE_GRIDS * k;
+        let end = value.len().min(at + 8 * PAGE_GRIDS);
+        let n = (end - at) / 8;
+        tally = tally.plus(by_page(&mut value[at..end], &mut page[..n]));
     }
     tally
 }
@@ -123,39 +139,30 @@ pub fn grids(value: &mut [u8]) -> Tally
 }
 
 // A block scrubbed by way of its words. Where nothing was mended, nothing is written.
-fn by_words(value: &mut [u8], words: &mut [u16]) -> Blocks
-    requires { (length value.old ≡ block_bytes) × (length words.old ≡ 38) }
+fn by_words(value: &mut [u8], words: &mut [u16; 38]) -> Blocks
+    requires { length value.old ≡ block_bytes }
     ensures { ScrubbedBlock value.old result value.new }
 {
-    values::words(value, words);
-    let scrub = Block::scrub(words);
-    let answer = scrub.answer;
-    match answer {
-        BlockAnswer::Done(verdict) => match verdict {
-            BlockVerdict::Clean => Blocks {
-                blocks: 1,
-                clean: 1,
-                mended: 0,
-                lost: 0,
-                flips: 0,
-            },
-            BlockVerdict::Mended { flips } => {
-                values::put_words(value, words);
-                Blocks {
-                    blocks: 1,
-                    clean: 0,
-                    mended: 1,
-                    lost: 0,
-                    flips,
-                }
-            }
-        },
-        BlockAnswer::Refused(_) => Blocks {
+    values::read(value, words);
+    match Block::scrub(words).answer {
+        Ok(BlockVerdict::Clean) => Blocks {
             blocks: 1,
-            clean: 0,
-            mended: 0,
+            clean: 1,
+            ..Blocks::default()
+        },
+        Ok(BlockVerdict::Mended { flips }) => {
+            values::write(value, words);
+            Blocks {
+                blocks: 1,
+                mended: 1,
+                flips,
+                ..Blocks::default()
+            }
+        }
+        Err(_) => Blocks {
+            blocks: 1,
             lost: 1,
-            flips: 0,
+            ..Blocks::default()
         },
     }
 }

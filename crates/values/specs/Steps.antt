@@ -17,10 +17,10 @@ pub record FirstRows (bytes rows : List ℕ) : Type 0 where
 pub record Copied (bytes to exit : List ℕ) : Type 0 where
   pub after : exit ≡ choose (leb (length bytes) (length to)) (laid bytes to) to
 
--- `values::grids` and `values::words`: the words of k bytes each at the front of the bytes, where there are bytes for all of them.
+-- `values::read`: the words of k bytes each at the front of the bytes, where there are bytes for all of them.
 pub record Taken (k : ℕ) (bytes words exit : List ℕ) : Type 0 where
   pub after : exit ≡ choose (leb (k * length words) (length bytes)) (words_in k (length words) bytes) words
 
--- `values::put_grids` and `values::put_words`: the same, back.
+-- `values::write`: the same, back.
 pub record Put (k : ℕ) (words bytes exit : List ℕ) : Type 0 where
   pub after : exit ≡ choose (leb (k * length words) (length bytes)) (laid (bytes_of k words) bytes) bytes

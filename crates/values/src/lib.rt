@@ -1,143 +1,129 @@
 // The bytes of a field's value as grids and as words, and back. Each public function works at the front of a slice, and accepts every
 // input: where the lengths do not fit, nothing is written.
 //
+// `grid` and `put_grid` do so for the rows of one grid: nothing here calls them, and they stay, since docs/PROMISES.md lists them.
+//
 // specs/Steps.antt says what each of them does. No promise to a caller cites this crate.
 #![tactic(auto)]
 
-ghost use Rattle.std.specs.Prelude.{◌≡◌, ◌≤◌, length, take};
+ghost use Rattle.std.specs.Prelude.{◌≡◌, ℕ, List, map, ◌≤◌, ◌<◌, length, take};
+ghost use Rattle.std.proofs.Common.{rules, sym};
+ghost use Rattle.std.proofs.lemmas.List.{map-id};
 ghost use Rattle.words.specs.Digits.{digits, joined};
 ghost use Rattle.words.specs.Bytes.{laid};
 ghost use Rattle.values.specs.Steps.{FirstRows, Copied, Taken, Put};
 
 use grid::Grid;
 
-// The grid whose rows are the first eight bytes, ..
-fn grid_at(bytes: &[u8]) -> Grid
-    requires { 8 ≤ length bytes.now }
-    ensures { result.rows ≡ take 8 bytes.now }
-{
-    Grid {
-        rows: [
-            bytes[0], bytes[1], bytes[2], bytes[3], bytes[4], bytes[5], bytes[6], bytes[7],
-        ],
+// A number of N bytes, lowest byte first: a word of the block, or the number of a grid.
+pub trait Word<const N: usize>: Copy {
+    ghost number: { Self → ℕ };
+
+    // A list of words as a list of numbers. `each` says that it is `number` of each word; for u16 and u64 it is the list itself, so that
+    // what the callers state of their slices needs no `map`.
+    ghost numbers: { List Self → List ℕ };
+
+    fn from_bytes(bytes: [u8; N]) -> Self
+        ensures { number result ≡ joined 8 bytes.entry };
+
+    fn to_bytes(self) -> [u8; N]
+        ensures { result ≡ digits 8 N (number self) };
+
+    ghost each: { (words : List Self) → numbers words ≡ map number words };
+
+    ghost size: { (0 < N) × (N ≤ 8) };
+}
+
+impl Word<2> for u16 {
+    ghost number = { λ word. word };
+
+    ghost numbers = { λ words. words };
+
+    ghost each = { λ words. sym (map-id words) };
+
+    ghost size = { Prim.search rules };
+
+    fn from_bytes(bytes: [u8; 2]) -> u16
+        ensures { result ≡ joined 8 bytes }
+    {
+        u16::from_le_bytes(bytes)
+    }
+
+    fn to_bytes(self) -> [u8; 2] {
+        u16::to_le_bytes(self)
     }
 }
 
-// .. for every slice, ..
+impl Word<8> for u64 {
+    ghost number = { λ word. word };
+
+    ghost numbers = { λ words. words };
+
+    ghost each = { λ words. sym (map-id words) };
+
+    ghost size = { Prim.search rules };
+
+    fn from_bytes(bytes: [u8; 8]) -> u64
+        ensures { result ≡ joined 8 bytes }
+    {
+        u64::from_le_bytes(bytes)
+    }
+
+    fn to_bytes(self) -> [u8; 8] {
+        u64::to_le_bytes(self)
+    }
+}
+
+// The grid whose rows are the first eight bytes, ..
 pub fn grid(bytes: &[u8]) -> Grid
     ensures { FirstRows bytes.now result.rows }
 {
-    if bytes.len() < 8 {
-        return Grid { rows: [0; 8] };
+    match bytes.first_chunk() {
+        Some(rows) => Grid { rows: *rows },
+        None => Grid { rows: [0; 8] },
     }
-    grid_at(bytes)
 }
 
 // .. and the rows put there.
 pub fn put_grid(bytes: &mut [u8], grid: Grid)
     ensures { Copied grid.rows bytes.old bytes.new }
 {
-    if bytes.len() < 8 {
-        return;
-    }
-    let rows = grid.rows;
-    bytes[0] = rows[0];
-    bytes[1] = rows[1];
-    bytes[2] = rows[2];
-    bytes[3] = rows[3];
-    bytes[4] = rows[4];
-    bytes[5] = rows[5];
-    bytes[6] = rows[6];
-    bytes[7] = rows[7];
-}
-
-// The word of the first two bytes, low byte first, ..
-fn word_at(bytes: &[u8]) -> u16
-    requires { 2 ≤ length bytes.now }
-    ensures { result ≡ joined 8 (take 2 bytes.now) }
-{
-    (bytes[1] as u16) * 256 + (bytes[0] as u16)
-}
-
-// .. and put there.
-fn put_word(bytes: &mut [u8], word: u16)
-    requires { 2 ≤ length bytes.old }
-    ensures { bytes.new ≡ laid (digits 8 2 word) bytes.old }
-{
-    bytes[0] = (word % 256) as u8;
-    bytes[1] = (word / 256 % 256) as u8;
+    copy(&grid.rows, bytes);
 }
 
 // Bytes to the front of a slice.
 pub fn copy(bytes: &[u8], to: &mut [u8])
     ensures { Copied bytes.now to.old to.new }
 {
-    if to.len() < bytes.len() {
-        return;
-    }
-    let mut i: usize = 0;
-    while i < bytes.len() {
-        to[i] = bytes[i];
-        i += 1;
+    let n = bytes.len();
+    if n <= to.len() {
+        to[..n].copy_from_slice(bytes);
     }
 }
 
-// The grids of a value, as a page, ..
-pub fn grids(bytes: &[u8], page: &mut [u64])
-    ensures { Taken 8 bytes.now page.old page.new }
+// The words of a value, or its grids as numbers, ..
+pub fn read<T: Word<N>, const N: usize>(bytes: &[u8], words: &mut [T])
+    ensures { Taken N bytes.now (T.numbers words.old) (T.numbers words.new) }
 {
-    if bytes.len() / 8 < page.len() {
+    let (chunks, _) = bytes.as_chunks::<N>();
+    if chunks.len() < words.len() {
         return;
     }
-    let mut i: usize = 0;
-    while i < page.len() {
-        let at = 8 * i;
-        page[i] = grid_at(&bytes[at..]).number();
-        i += 1;
+    // By index: no proof knows what a slice holds after a chain on `iter_mut`.
+    for i in 0..words.len() {
+        words[i] = T::from_bytes(chunks[i]);
     }
 }
 
 // .. and back.
-pub fn put_grids(bytes: &mut [u8], page: &[u64])
-    ensures { Put 8 page.now bytes.old bytes.new }
+pub fn write<T: Word<N>, const N: usize>(bytes: &mut [u8], words: &[T])
+    ensures { Put N (T.numbers words.now) bytes.old bytes.new }
 {
-    if bytes.len() / 8 < page.len() {
+    if bytes.len() / N < words.len() {
         return;
     }
-    let mut i: usize = 0;
-    while i < page.len() {
-        let at = 8 * i;
-        put_grid(&mut bytes[at..], Grid::of_number(page[i]));
-        i += 1;
-    }
-}
-
-// The words of a value, ..
-pub fn words(bytes: &[u8], words: &mut [u16])
-    ensures { Taken 2 bytes.now words.old words.new }
-{
-    if bytes.len() / 2 < words.len() {
-        return;
-    }
-    let mut i: usize = 0;
-    while i < words.len() {
-        let at = 2 * i;
-        words[i] = word_at(&bytes[at..]);
-        i += 1;
-    }
-}
-
-// .. and back.
-pub fn put_words(bytes: &mut [u8], words: &[u16])
-    ensures { Put 2 words.now bytes.old bytes.new }
-{
-    if bytes.len() / 2 < words.len() {
-        return;
-    }
-    let mut i: usize = 0;
-    while i < words.len() {
-        let at = 2 * i;
-        put_word(&mut bytes[at..], words[i]);
-        i += 1;
+    // By ranges: no proof knows what a slice holds after `chunks_exact_mut`, or a zip on `iter_mut`.
+    for (i, word) in words.iter().enumerate() {
+        bytes[N * i..N * (i + 1)].copy_from_slice(&word.to_bytes());
     }
 }

@@ -1,5 +1,5 @@
 -- `block_flips::attempt` meets its contract. Assumes nothing.
-use Rattle.std.proofs.Common.{ℕ, sym, ap, ◌∙◌, arith}
+use Rattle.std.proofs.Common.{ℕ, Some, None, sym, ap, ◌∙◌, arith}
 use mathlib.Core.Path.{subst}
 use Rattle.block_code.specs.Checks.{mixed, none_set}
 use Rattle.block_code.specs.declared.Checks.{Checks}
@@ -11,25 +11,23 @@ pub returns-then-is_none : goal.returns-then-is_none
 returns-then-is_none c =
     let s : Checks = c.args.s in
     let p : ℕ = c.args.p in
-    let rest = c.mix-rest.ensures.answer ∙ ap (mixed s) c.of_place.ensures.answer in
-    tried_one s p c.if-p-lt-PLACES.true (sym (c.is_none.ensures.answer ∙ ap none_set rest) ∙ c.if-is_none.true)
+    let rest = c.bitxor-rest.ensures.answer ∙ ap (mixed s) c.of_place.ensures.answer in
+    tried_one s p (omega arith) (sym (c.is_none.ensures.answer ∙ ap none_set rest) ∙ c.if-is_none.true)
 
-pub returns-then-q-lt-PLACES : goal.returns-then-q-lt-PLACES
-returns-then-q-lt-PLACES c =
+pub returns : goal.returns
+returns c =
     let s : Checks = c.args.s in
     let p : ℕ = c.args.p in
-    let q : ℕ = c.alone-q.result in
-    let rest = c.mix-rest.ensures.answer ∙ ap (mixed s) c.of_place.ensures.answer in
+    let rest = c.bitxor-rest.ensures.answer ∙ ap (mixed s) c.of_place.ensures.answer in
     subst (Attempted s p) (sym c.in_order.ensures)
-    (tried_two s p q c.if-p-lt-PLACES.true (omega arith)
-    (sym (c.is_none.ensures.answer ∙ ap none_set rest) ∙ c.if-is_none.false)
-    (subst (λ (k : Checks). OnlyPlace k q) rest c.alone-q.ensures))
+    (tried_two s p c.in_ok-alone.field-0 (omega arith) (sym (c.is_none.ensures.answer ∙ ap none_set rest) ∙ c.if-is_none.false)
+    (subst (λ (k : Checks). OnlyPlace k (Some c.in_ok-alone.field-0)) rest c.in_ok-alone.ensures))
 
-pub returns-else-q-lt-PLACES : goal.returns-else-q-lt-PLACES
-returns-else-q-lt-PLACES c =
+pub returns-in_err-alone : goal.returns-in_err-alone
+returns-in_err-alone c =
     let s : Checks = c.args.s in
     let p : ℕ = c.args.p in
-    let q : ℕ = c.alone-q.result in
-    let rest = c.mix-rest.ensures.answer ∙ ap (mixed s) c.of_place.ensures.answer in
-    tried_more s p q (sym (c.is_none.ensures.answer ∙ ap none_set rest) ∙ c.if-is_none.false)
-    (subst (λ (k : Checks). OnlyPlace k q) rest c.alone-q.ensures) (omega arith)
+    let rest = c.bitxor-rest.ensures.answer ∙ ap (mixed s) c.of_place.ensures.answer in
+    subst (Attempted s p) (sym c.from_residual.ensures)
+    (tried_more s p (sym (c.is_none.ensures.answer ∙ ap none_set rest) ∙ c.if-is_none.false)
+    (subst (λ (k : Checks). OnlyPlace k None) rest c.in_err-alone.ensures))

@@ -1,5 +1,5 @@
 -- `block_words::held` meets its contract: six words side by side. Assumes nothing.
-use Rattle.std.proofs.Common.{◌≡◌, ℕ, ◌+◌, ◌*◌, ◌/◌, ◌%◌, ◌^◌, ◌≤◌, ◌<◌, List, length, get_or, drop, bit_or, sym, ap, ◌∙◌, arith}
+use Rattle.std.proofs.Common.{◌≡◌, ℕ, ◌+◌, ◌*◌, ◌/◌, ◌%◌, ◌^◌, ◌≤◌, ◌<◌, List, length, get_or, drop, bit_or, sym, ap, ◌∙◌, arith, rules}
 use Prim.Native.Nat.{suc}
 use lib.Dec.{lit<}
 use Rattle.words.specs.Digits.{joined, Below}
@@ -33,10 +33,14 @@ holds ws n h = λ i. record { rows = rows i; columns = columns i; diagonals = di
 pub returns : goal.returns
 returns c =
     let ws : List ℕ = c.args.words.now in
-    let small : (i : ℕ) → get_or ws i 0 < 2 ^ 16 = λ i. omega (arith, c.type_inv.words i) in
+    let small : (i : ℕ) → get_or ws i 0 < 2 ^ 16 = λ i. search rules in
     let rows = side_by_side 16 16 (small 33) (small 32) in
-    let upper = side_by_side 48 16 {a = get_or ws 37 0} (omega (arith, small 37)) (small 36) in
+    let middle : get_or ws 36 0 * 2 ^ 16 < 2 ^ 32 = omega (arith, small 36) in
+    let upper : bit_or (get_or ws 37 0 * 2 ^ 32 % 2 ^ 64) (get_or ws 36 0 * 2 ^ 16 % 2 ^ 64) ≡ (get_or ws 37 0 * 2 ^ 16 + get_or ws 36 0) * 2 ^ 16 % 2 ^ 64 =
+    ap (bit_or (get_or ws 37 0 * 2 ^ 32 % 2 ^ 64)) (omega (arith, small 36)) ∙ side_by_side 32 32 {a = get_or ws 37 0} (omega (arith, small 37)) middle
+    ∙ omega (arith, small 37, small 36) in
     let diagonals =
-    ap (λ (x : ℕ). bit_or (x * 2 ^ 16 % 2 ^ 64) (get_or ws 35 0)) upper
+    ap (λ (x : ℕ). bit_or x (get_or ws 35 0)) upper
     ∙ side_by_side 48 16 {a = get_or ws 37 0 * 2 ^ 16 + get_or ws 36 0} (omega (arith, small 37, small 36)) (small 35) in
-    (λ i. record { rows = rows i; columns = get_or ws 34 0; diagonals = diagonals i }) ∙ sym (holds ws (omega arith) small)
+    rw (c.from.ensures, c.from-2.ensures, c.from-3.ensures, c.from-4.ensures, c.from-5.ensures)
+    ((λ i. record { rows = rows i; columns = get_or ws 34 0; diagonals = diagonals i }) ∙ sym (holds ws (omega arith) small))

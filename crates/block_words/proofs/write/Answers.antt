@@ -1,13 +1,12 @@
 -- `block_words::write` meets its contract: the data, and what it says behind it, is the codeword. Assumes nothing.
 use Rattle.std.proofs.Common.{◌≡◌, ℕ, ◌+◌, ◌*◌, ◌/◌, ◌%◌, ◌^◌, ◌<◌, List, ◌++◌, length, take, sym, ap, ◌∙◌, arith}
 use mathlib.Core.Path.{ap₂, subst}
-use mathlib.Core.List.{append-nil}
-use lib.ListN.{drop_of_length-le}
+use lib.ListN.{length-append}
 use lib.Pow.{split}
-use lib.Seq.{sets, sets-eq, paste, take-paste, length-paste}
+use lib.Seq.{take_all}
 use borrow.Author.Tests.{eq-eqb}
 use Rattle.words.specs.Digits.{digits, joined, Below}
-use Rattle.words.proofs.Digits.{digits-take, digits-joined, joined-digits, joined_lt, joined-append}
+use Rattle.words.proofs.Digits.{digits-joined, joined-digits, joined_lt, joined-append}
 use Rattle.block_code.specs.Code.{codeword}
 use Rattle.block_code.specs.Checks.{said_by, check_words}
 use Rattle.block_code.specs.declared.Checks.{Checks}
@@ -37,55 +36,40 @@ codeword-words d h =
     joined-append 16 (front d) (check_words (said_by (front d)))
     ∙ ap₂ (λ (x y : ℕ). x * 2 ^ 512 + y) (joined_checks (said_by (front d))) (joined-digits 16 32 d h)
 
--- the data pasted in, and the checks stored behind it
-stored : (values before : List ℕ) (k : Checks) → length values ≡ 32 → length before ≡ 38
-    → sets (paste before 0 values 32) 32 (check_words k) ≡ take 32 values ++ check_words k
-stored values before k n m =
-    let all : length (paste before 0 values 32) ≡ 38 = length-paste before 0 values 32 (omega arith) (omega arith) ∙ m in
-    sets-eq (check_words k) (paste before 0 values 32) 32 (omega (arith, all))
-    ∙ ap₂ {C = List ℕ} (λ (xs ys : List ℕ). xs ++ check_words k ++ ys) (take-paste before 0 values 32 (omega arith) (omega arith))
-    (drop_of_length-le (paste before 0 values 32) {i = 38} (omega (arith, all)))
-    ∙ append-nil (take 32 values ++ check_words k)
-
 -- what the code summed is what the data says
 module _ (values : List ℕ) (n : length values ≡ 32) (h : Below 16 values) (k : Checks) (e : k ≡ said_by (take 32 values)) where
   abbrev d : ℕ
   d = joined 16 values
 
-  data-words : take 32 values ≡ front d
-  data-words = sym (digits-take 16 32 values (omega arith) h)
+  data-words : values ≡ front d
+  data-words = sym (digits-joined 16 32 values n h)
 
   said_is : k ≡ said_by (front d)
-  said_is = e ∙ ap said_by data-words
+  said_is = e ∙ ap said_by (take_all 32 values (omega (arith, n)) ∙ data-words)
 
   fits : k.diagonals < 2 ^ 48
   fits = subst (λ (k : Checks). k.diagonals < 2 ^ 48) (sym said_is) (diagonals_lt d)
 
-  written : (before exit : List ℕ) → length before ≡ 38 → length exit ≡ 38 → Below 16 exit
-      → exit ≡ sets (paste before 0 values 32) 32 (check_words k) → exit ≡ digits 16 38 (codeword d)
-  written before exit m l b x =
-      sym (digits-joined 16 38 exit l b)
+  written : (exit : List ℕ) → Below 16 exit → exit ≡ values ++ check_words k → exit ≡ digits 16 38 (codeword d)
+  written exit b x =
+      sym (digits-joined 16 38 exit (ap length x ∙ length-append values (check_words k) ∙ ap (λ (m : ℕ). m + 6) n) b)
       ∙ ap (λ (ws : List ℕ). digits 16 38 (joined 16 ws))
-      (x ∙ stored values before k n m ∙ ap₂ {C = List ℕ} (λ (ws : List ℕ) (k : Checks). ws ++ check_words k) data-words said_is)
+      (x ∙ ap₂ {C = List ℕ} (λ (ws : List ℕ) (k : Checks). ws ++ check_words k) data-words said_is)
       ∙ ap (digits 16 38) (codeword-words d (joined_lt 16 32 values n h))
 
-pub hold-requires : goal.hold-requires
-hold-requires c =
-    let values : List ℕ = c.args.values.now in (
-      omega arith,
-      fits values (omega arith) (λ i. omega (arith, c.type_inv.values i)) c.said.result (said_all c.said.ensures (omega arith)),
-    )
+pub stored-requires : goal.stored-requires
+stored-requires c =
+    let values : List ℕ = c.args.values.now in
+    fits values (omega arith) (λ i. omega (arith, c.type_inv.values i)) c.said.result (said_all c.said.ensures (omega arith))
 
 pub returns : goal.returns
 returns c =
     let values : List ℕ = c.args.values.now in
-    let words : List ℕ = c.args.words.now in
     let n : length values ≡ 32 = omega arith in
-    let m : length words ≡ 38 = omega arith in
     record {
       after =
-          rw (eq-eqb (length values) 32 n, eq-eqb (length words) 38 m)
-          (written values n (λ i. omega (arith, c.type_inv.values i)) c.said.result (said_all c.said.ensures (omega arith)) words
-          c.hold.new.words m (omega arith) (λ i. omega (arith, c.type_inv.words i))
-          (c.hold.ensures ∙ ap (λ (ws : List ℕ). sets ws 32 (check_words c.said.result)) c.copy.ensures));
+          rw (eq-eqb (length values) 32 n, eq-eqb (length c.args.words.now) 38 (omega arith))
+          (written values n (λ i. omega (arith, c.type_inv.values i)) c.said.result (said_all c.said.ensures (omega arith)) _
+          (λ i. omega (arith, c.type_inv.words i))
+          (ap₂ {C = List ℕ} ◌++◌ c.copy_from_slice.ensures.after (c.copy_from_slice-2.ensures.after ∙ c.stored.ensures)));
     }

@@ -8,23 +8,23 @@ use Rattle.card_read.proofs.read_fields.Goals as goal
 
 pub read_first-requires : goal.read_first-requires
 read_first-requires c =
-    let l = c.loop-size in
+    let l = c.loop-first in
     lent_as ReadsFields c.args.rest.now l.numbers l.flips l.at l.k l.invariant.reads
 
-pub loop-size-preserved : goal.loop-size-preserved
-loop-size-preserved c =
-    let l = c.loop-size in
+pub loop-first-preserved : goal.loop-first-preserved
+loop-first-preserved c =
+    let l = c.loop-first in
     let a = c.args in
     let i = l.invariant in
     let rest = a.rest.now in
-    let size = c.in-Data.size in
-    let g = c.in-Data.grids in
+    let size = c.in-Some.first.size in
+    let g = c.in-Some.first.grids in
     let ns = c.read_first.new.numbers in
     let fs = c.read_first.new.flips in
     let step =
     as_lent (λ r n f. Passed r n f size g ns fs) rest l.numbers l.flips l.at l.k
     (subst (λ r. ReadFirst (take (length rest - l.at) (drop l.at rest)) (take (length l.numbers - l.k) (drop l.k l.numbers)) (take (length l.flips - l.k) (drop l.k l.flips)) r ns fs)
-    c.in-Data.is c.read_first.ensures) in
+    c.in-Some.is c.read_first.ensures) in
     let n_long = c.read_first.auto.numbers ∙ length_part l.k l.numbers in
     let f_long = c.read_first.auto.flips ∙ length_part l.k l.flips in
     let n_same = returned_long l.numbers ns l.k g i.numbers_inside n_long in

@@ -4,8 +4,8 @@ use Rattle.card_read.specs.Steps.{ReadsFields}
 use Rattle.card_read.proofs.Turns.{Completes}
 use Rattle.card_read.proofs.read_fields.Given as goal
 
-abbrev pub invariant-loop-size : goal.invariant-loop-size
-invariant-loop-size l = record {
+abbrev pub invariant-loop-first : goal.invariant-loop-first
+invariant-loop-first l = record {
   inside : l.at ≤ length l.rest;
   few : l.k ≤ l.at;
   numbers_inside : l.k ≤ length l.numbers;
@@ -16,5 +16,5 @@ invariant-loop-size l = record {
   completes : Completes l.rest l.initial.numbers l.initial.flips l.at l.k l.numbers l.flips;
 }
 
-abbrev pub decreases-loop-size : goal.decreases-loop-size
-decreases-loop-size l = length l.rest - l.at
+abbrev pub decreases-loop-first : goal.decreases-loop-first
+decreases-loop-first l = length l.rest - l.at

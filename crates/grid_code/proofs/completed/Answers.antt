@@ -19,6 +19,6 @@ returns c =
     lower_rows d c.lower.result l (subst (λ (x : ℕ). Checks x c.lower.result) c.upper-rows.ensures c.lower.ensures) in
     record {
       answer =
-          ap₂ (λ (h u : ℕ). bit_or (h * 2 ^ 32 % 2 ^ 64) u) lower c.upper-rows.ensures
+          ap₂ (λ (h u : ℕ). bit_or (h * 2 ^ 32 % 2 ^ 64) u) (c.from.ensures ∙ lower) (c.from-2.ensures ∙ c.upper-rows.ensures)
           ∙ both_parts 32 32 (codeword d) (codeword_lt d l);
     }

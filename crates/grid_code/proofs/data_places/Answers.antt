@@ -1,4 +1,5 @@
 -- `grid_code::data_places` meets its contract: both sides are linear, and agree at each data bit. Assumes nothing.
+use Rattle.std.proofs.Common.{ap, ◌∙◌}
 use Rattle.words.proofs.Linear.{Linear, same, ◌⊕◌, shl, mask, agree}
 use Rattle.grid_code.specs.Code.{codeword}
 use Rattle.grid_code.proofs.Codeword.{grids}
@@ -13,4 +14,4 @@ made = mask (pairs ⊕ shl pairs 4 32) 0x0F0F_0F0F
 
 pub returns : goal.returns
 unfolding codeword
-returns c = record { answer = agree made (mask grids 0x0F0F_0F0F) 16 tt c.args.value c.ranges.value.fits }
+returns c = record { answer = ap made.at c.from-v.ensures ∙ agree made (mask grids 0x0F0F_0F0F) 16 tt c.args.value c.ranges.value.fits }

@@ -9,8 +9,8 @@ use Rattle.grid_columns.proofs.two.Goals as goal
 pub returns : goal.returns
 returns c =
     let rows : ℕ = c.args.rows in
-    let i : ℕ = c.args.i in
-    let j : ℕ = c.args.j in
+    let i = c.args.i in
+    let j = c.args.j in
     let h : rows < 2 ^ 64 = search rules in
-    two_mended rows i j c.paired.result h c.requires.0 c.requires.1 c.requires.2
-    (subst (λ (x : ℕ). Paired x i j c.paired.result) c.evened.ensures c.paired.ensures)
+    two_mended rows i.index j.index c.paired.result h i.below j.below c.requires
+    (subst (λ (x : ℕ). Paired x i.index j.index c.paired.result) c.evened.ensures c.paired.ensures)

@@ -49,10 +49,10 @@ one_more : (rows copy : List ℕ) (r x : ℕ) → r < length rows → copy ≡ p
 one_more rows copy r x h e s = rw (s, e) (partly_step fixed rows r h)
 
 pub loop-r-init : goal.loop-r-init
-loop-r-init c = (omega arith, partly_none fixed _)
+loop-r-init c = partly_none fixed _
 
-pub bounds-flips-checks : goal.bounds-flips-checks
-bounds-flips-checks c =
+pub bounds-from : goal.bounds-from
+bounds-from c =
     let l = c.loop-r in
     let of_number = c.of_number-checks in
     let worked_out = c.row_checks in
@@ -63,7 +63,7 @@ bounds-flips-checks c =
     let is =
     checked rows of_number.result packed.result worked_out.result n (λ i. (small i).fits) packed.ensures worked_out.ensures
     of_number.ensures l.r (omega arith) in
-    omega (arith, is, check_lt (get_or rows l.r 0) (small l.r).fits)
+    omega (arith, c.from.ensures, is, check_lt (get_or rows l.r 0) (small l.r).fits)
 
 pub loop-r-preserved : goal.loop-r-preserved
 loop-r-preserved c =
@@ -76,15 +76,13 @@ loop-r-preserved c =
     let small : (i : ℕ) → Fits w8 (get_or rows i 0) = λ i. search rules in
     let is =
     checked rows of_number.result packed.result worked_out.result n (λ i. (small i).fits) packed.ensures worked_out.ensures
-    of_number.ensures l.r (omega arith) in (
-      omega arith,
-      one_more rows l.copy l.r _ (omega arith) l.invariant.1
-          (ap (λ (k : ℕ). bit_xor (get_or rows l.r 0) (get_or flips k 0)) is ∙ one_row (get_or rows l.r 0) (small l.r).fits),
-    )
+    of_number.ensures l.r (omega arith) in
+    one_more rows l.copy l.r _ (omega arith) l.invariant
+    (ap (λ (k : ℕ). bit_xor (get_or rows l.r 0) (get_or flips k 0)) (c.from.ensures ∙ is) ∙ one_row (get_or rows l.r 0) (small l.r).fits)
 
 pub returns : goal.returns
 returns c =
     let l = c.loop-r in
     let rows : List ℕ = c.args.rows in
     let n : length rows ≡ 8 = search rules in
-    record { answer = l.invariant.1 ∙ partly_all fixed rows l.r (omega arith) }
+    record { answer = l.invariant ∙ partly_all fixed rows l.r (omega arith) }

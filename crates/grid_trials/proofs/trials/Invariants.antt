@@ -1,14 +1,12 @@
 -- There are two trials at most, since the second sets aside all that the next one could.
-use Rattle.std.proofs.Common.{◌≡◌, ◌⊎◌, ◌+◌, ◌-◌, ◌≤◌}
-use Rattle.words.specs.Word.{choose}
+use Rattle.std.proofs.Common.{◌≡◌, ◌⊎◌, ◌-◌}
 use Rattle.grid_trials.specs.Steps.{Repaired}
 use Rattle.grid_trials.proofs.Decoder.{Stage}
 use Rattle.grid_trials.proofs.trials.Given as goal
 
-abbrev pub invariant-loop-more : goal.invariant-loop-more
-invariant-loop-more l =
-    (l.made + choose l.more 1 0 ≤ 2) × ((l.made ≡ 0) ⊎ (l.aside ≡ l.any))
-    × (Repaired l.word l.rows → Stage l.word l.aside l.any l.made l.more)
+abbrev pub invariant-loop-marks : goal.invariant-loop-marks
+invariant-loop-marks l =
+    ((l.made ≡ 1) ⊎ ((l.made ≡ 2) × (l.aside ≡ l.marks.any))) × (Repaired l.word l.rows → Stage l.word l.marks.any l.made l.aside)
 
-abbrev pub decreases-loop-more : goal.decreases-loop-more
-decreases-loop-more l = 2 - l.made
+abbrev pub decreases-loop-marks : goal.decreases-loop-marks
+decreases-loop-marks l = 2 - l.made

@@ -1,12 +1,10 @@
--- Digit by digit, the last one first.
-use Rattle.std.proofs.Common.{◌≡◌, ◌≤◌, ◌++◌, length, drop}
+-- The digits so far are the last ones of the number, the last first, and those of the rest come before them. Assumes nothing.
+use Rattle.std.proofs.Common.{◌≡◌, ◌++◌, reverse}
 use Rattle.lines.specs.Text.{decimal}
 use Rattle.lines.proofs.decimal.Given as goal
 
 abbrev pub invariant-loop-rest : goal.invariant-loop-rest
-invariant-loop-rest l =
-    (l.text ≡ l.initial.text) × (l.i ≤ 20) × (length l.digits ≡ 20) × (length (decimal l.rest) ≤ l.i)
-    × (decimal l.rest ++ drop l.i l.digits ≡ decimal l.n)
+invariant-loop-rest l = decimal l.rest ++ reverse l.digits.items ≡ decimal l.fn.n
 
 abbrev pub decreases-loop-rest : goal.decreases-loop-rest
-decreases-loop-rest l = l.i
+decreases-loop-rest l = l.rest

@@ -1,5 +1,4 @@
 -- `lines::grids_line` meets its contract: one number behind the other. Assumes nothing.
-use Rattle.std.proofs.Common.{◌≤◌, length, arith}
 use Rattle.lines.specs.Text.{labelled, grids_line}
 use Rattle.lines.proofs.Adding.{then}
 use Rattle.lines.proofs.grids_line.Goals as goal
@@ -7,10 +6,8 @@ use Rattle.lines.proofs.grids_line.Goals as goal
 pub returns : goal.returns
 unfolding grids_line labelled
 returns c =
-    let l : c.args.at ≤ length c.args.text.now = omega (arith, c.requires) in
-    let to_two = then l c.labelled-at.ensures c.labelled-at-2.ensures in
-    let to_three = then l to_two c.labelled-at-3.ensures in
-    let to_four = then l to_three c.labelled-at-4.ensures in
-    let to_five = then l to_four c.labelled-at-5.ensures in
-    let to_six = then l to_five c.labelled-at-6.ensures in
-    then l to_six c.put.ensures
+    let to_two = then c.labelled.ensures c.labelled-2.ensures in
+    let to_three = then to_two c.labelled-3.ensures in
+    let to_four = then to_three c.labelled-4.ensures in
+    let to_five = then to_four c.labelled-5.ensures in
+    then (then to_five c.labelled-6.ensures) c.put.ensures

@@ -1,26 +1,17 @@
 -- `lines::place` meets its contract. Assumes nothing.
-use Rattle.std.proofs.Common.{◌≤◌, length, sym, subst, arith}
-use Rattle.lines.specs.Text.{place_text, labelled}
+use Rattle.std.proofs.Common.{subst, sym, arith}
+use Rattle.lines.specs.Text.{labelled, place_text}
 use Rattle.lines.specs.Steps.{place_room, Added}
-use Rattle.lines.proofs.Adding.{then, nothing}
+use Rattle.lines.proofs.Adding.{then}
 use Rattle.lines.proofs.Digits.{digits_64}
 use Rattle.lines.proofs.place.Goals as goal
 
 pub decimal-requires : goal.decimal-requires
-decimal-requires c =
-    omega (arith, c.put-at.ensures.behind, c.put-at.ensures.long, digits_64 c.in-At.n (omega arith), c.requires)
+decimal-requires c = omega (arith, c.requires, c.put.ensures.few, digits_64 c.in-Some.n (omega arith))
 
-pub returns-in-At : goal.returns-in-At
+pub returns-in-Some : goal.returns-in-Some
 unfolding labelled
-returns-in-At c =
-    let t = c.args.text.now in
-    let at = c.args.at in
-    let l : at ≤ length t = omega (arith, c.requires) in
-    subst (λ p. Added (place_text p) place_room t at c.decimal.result c.decimal.new.text) (sym c.in-At.is) (then l c.put-at.ensures c.decimal.ensures)
-
-pub returns-in-Nowhere : goal.returns-in-Nowhere
-returns-in-Nowhere c =
-    let t = c.args.text.now in
-    let at = c.args.at in
-    let l : at ≤ length t = omega (arith, c.requires) in
-    subst (λ p. Added (place_text p) place_room t at at t) (sym c.in-Nowhere.is) (nothing t at l)
+returns-in-Some c =
+    let all = then c.put.ensures c.decimal.ensures in
+    subst (λ p. Added (place_text p) place_room c.args.text.now c.decimal.new.text) (sym c.in-Some.is)
+    (record { after = all.after; few = omega (arith, all.few, digits_64 c.in-Some.n (omega arith)) })

@@ -15,15 +15,15 @@ few w v u e is =
 
 pub overflow_cast-result : goal.overflow_cast-result
 overflow_cast-result c =
-    let answer = c.decode-answer in
+    let answer = c.decode in
     omega (arith, few (joined 8 c.args.grid.rows) answer.result.verdict _ c.in-Blank.is answer.ensures.answer)
 
 pub overflow_add-result : goal.overflow_add-result
 overflow_add-result c =
-    let answer = c.decode-answer in
+    let answer = c.decode in
     omega (arith, few (joined 8 c.args.grid.rows) answer.result.verdict _ c.in-Blank.is answer.ensures.answer)
 
 pub overflow_cast-result-in-Mended : goal.overflow_cast-result-in-Mended
 overflow_cast-result-in-Mended c =
-    let answer = c.decode-answer in
+    let answer = c.decode in
     omega (arith, few (joined 8 c.args.grid.rows) answer.result.verdict _ c.in-Mended.is answer.ensures.answer)

@@ -8,10 +8,6 @@ pub returns-then-values-ne-VALUES-clause-constants :
     goal.returns-then-values-ne-VALUES-clause-constants
 returns-then-values-ne-VALUES-clause-constants c = constants
 
-pub returns-then-words-ne-WORDS-clause-constants :
-    goal.returns-then-words-ne-WORDS-clause-constants
-returns-then-words-ne-WORDS-clause-constants c = constants
-
 pub returns-clause-encoded : goal.returns-clause-encoded
 returns-clause-encoded c =
     encoded c.args.values.now c.args.words.now c.write.new.words (omega arith) (omega arith)

@@ -9,6 +9,6 @@ use Rattle.grid.proofs.Grid.decode.Goals as goal
 pub returns-then-is_codeword : goal.returns-then-is_codeword
 returns-then-is_codeword c =
     let rows : List ℕ = c.args.self.rows in
-    let number = c.number in
+    let number = c.from in
     c.answered.ensures
     (is_codeword rows number.result number.ensures.answer (subst (Judged rows) c.if-is_codeword.true c.is_codeword.ensures))

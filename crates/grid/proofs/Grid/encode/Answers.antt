@@ -1,7 +1,7 @@
 -- `grid::Grid::encode` meets its contract: the rows are those of the codeword, or none. Assumes nothing.
-use mathlib.Core.Path.{◌≡◌, refl, sym, ap, ◌∙◌, subst}
+use Rattle.std.specs.Prelude.{Err, Ok}
+use mathlib.Core.Path.{◌≡◌, sym, ap, ◌∙◌, subst}
 use mathlib.Core.Logic.{◌≢◌}
-use mathlib.Core.List.{List}
 use Prim.Native.Nat.{ℕ, ◌^◌, ◌<◌}
 use native.Mathlib.Omega.{arith}
 use borrow.Author.Rules.{rules}
@@ -15,28 +15,27 @@ use Rattle.grid_code.specs.Verdict.{erased}
 use Rattle.grid_code.proofs.Codeword.{is_codeword}
 use Rattle.grid_code.proofs.Promises.{promised}
 use Rattle.grid.specs.Calls.{Encoded}
-use Rattle.grid.specs.declared.EncodeAnswer.TheVariants.{Done, Refused}
+use Rattle.grid.specs.declared.Grid.{Grid}
 use Rattle.grid.proofs.Grid.encode.Goals as goal
 
-refused : (d : ℕ) (rows : List ℕ) → d ≡ erased → rows ≡ digits 8 8 0
-    → Encoded d (record { answer = Refused Erased; grid = record { rows = rows } })
-refused d rows e o = record {
+refused : (d : ℕ) → d ≡ erased → Encoded d (Err Erased)
+refused d e = record {
   answer = rw (eq-eqb d erased e);
-  grid = rw (eq-eqb d erased e) o;
-  meets = λ z. let n : ◌≡◌ {A = ℕ} 0 1 = cc in absurd (omega arith);
+  meets = λ g z. let n : ◌≡◌ {A = ℕ} 0 1 = cc in absurd (omega arith);
 }
 
-encoded : (d : ℕ) (rows : List ℕ) → d < 2 ^ 16 → d ≢ erased → rows ≡ digits 8 8 (codeword d)
-    → Encoded d (record { answer = Done; grid = record { rows = rows } })
-encoded d rows h ne e = record {
-  answer = rw (ne_eqb d erased ne);
-  grid = rw (ne_eqb d erased ne) e;
-  meets = λ z. subst (Codeword d) (sym (ap (joined 8) e ∙ joined-digits 8 8 (codeword d) (is_codeword d h).fits)) (is_codeword d h);
+encoded : (d : ℕ) (grid : Grid) → d < 2 ^ 16 → d ≢ erased → grid.rows ≡ digits 8 8 (codeword d) → Encoded d (Ok grid)
+encoded d grid h ne e = record {
+  answer = rw (ne_eqb d erased ne) (ap (λ rows. Ok (record { rows = rows })) e);
+  meets = λ g z.
+      let same : grid ≡ g = cc in
+      subst (λ (g : Grid). Codeword d (joined 8 g.rows)) same
+      (subst (Codeword d) (sym (ap (joined 8) e ∙ joined-digits 8 8 (codeword d) (is_codeword d h).fits)) (is_codeword d h));
 }
 
 pub returns-then-value-eq-ERASED : goal.returns-then-value-eq-ERASED
 returns-then-value-eq-ERASED c = record {
-  encoded = refused c.args.value (digits 8 8 0) c.if-value-eq-ERASED.true refl;
+  encoded = refused c.args.value c.if-value-eq-ERASED.true;
   constants = promised.constants;
 }
 
@@ -45,6 +44,6 @@ returns c =
     let d : ℕ = c.args.value in
     let l : d < 2 ^ 16 = search rules in
     record {
-      encoded = encoded d c.of_number.result.rows l c.if-value-eq-ERASED.false (c.of_number.ensures.answer ∙ ap (digits 8 8) c.encoded.ensures.answer);
+      encoded = encoded d c.from.result l c.if-value-eq-ERASED.false (c.from.ensures.answer ∙ ap (digits 8 8) c.encoded.ensures.answer);
       constants = promised.constants;
     }

@@ -4,5 +4,5 @@ use Rattle.grid.proofs.Grid.is_codeword.Goals as goal
 
 pub returns : goal.returns
 returns c =
-    is_judged c.args.self.rows c.number-word.result c.number-word.ensures.answer
+    is_judged c.args.self.rows c.from-word.result c.from-word.ensures.answer
     c.places_of.result c.completed.result c.places_of.ensures c.completed.ensures

@@ -20,4 +20,4 @@ returns-in_default c =
 pub returns : goal.returns
 returns c =
     let found = c.nearest in
-    c.answered.ensures (subst (Nearby c.args.self.rows) c.in-Within.is found.ensures)
+    c.answered.ensures (subst (Nearby c.args.self.rows) c.in-Some.is found.ensures)

@@ -13,14 +13,14 @@ use Rattle.page.proofs.Tally.with_grid.Goals as goal
 
 pub counted-requires : goal.counted-requires
 counted-requires c =
-    let grid = c.of_number-grid in
+    let grid = c.from-grid in
     let judged = subst (Judged grid.result.rows) c.if-is_codeword.true c.is_codeword.ensures in
     subst (Roomy c.args.self)
     (all_ones_blank c.args.word grid.result.rows c.ranges.word.fits grid.ensures.answer judged c.if-word-eq-ALL_ONES.true) c.requires
 
 pub returns-then-word-eq-ALL_ONES : goal.returns-then-word-eq-ALL_ONES
 returns-then-word-eq-ALL_ONES c =
-    let grid = c.of_number-grid in
+    let grid = c.from-grid in
     let judged = subst (Judged grid.result.rows) c.if-is_codeword.true c.is_codeword.ensures in
     let is = all_ones_blank c.args.word grid.result.rows c.ranges.word.fits grid.ensures.answer judged c.if-word-eq-ALL_ONES.true in (
       codeword_kept c.args.word grid.result.rows c.ranges.word.fits grid.ensures.answer judged,
@@ -31,14 +31,14 @@ returns-then-word-eq-ALL_ONES c =
 
 pub counted-requires-then-is_codeword : goal.counted-requires-then-is_codeword
 counted-requires-then-is_codeword c =
-    let grid = c.of_number-grid in
+    let grid = c.from-grid in
     let judged = subst (Judged grid.result.rows) c.if-is_codeword.true c.is_codeword.ensures in
     let (d, is) = others_clean c.args.word grid.result.rows c.ranges.word.fits grid.ensures.answer judged c.if-word-eq-ALL_ONES.false in
     clean_roomy c.args.self (grid_verdict c.args.word) d is c.requires
 
 pub returns-then-is_codeword : goal.returns-then-is_codeword
 returns-then-is_codeword c =
-    let grid = c.of_number-grid in
+    let grid = c.from-grid in
     let judged = subst (Judged grid.result.rows) c.if-is_codeword.true c.is_codeword.ensures in
     let (d, is) = others_clean c.args.word grid.result.rows c.ranges.word.fits grid.ensures.answer judged c.if-word-eq-ALL_ONES.false in (
       codeword_kept c.args.word grid.result.rows c.ranges.word.fits grid.ensures.answer judged,
@@ -49,10 +49,10 @@ returns-then-is_codeword c =
 
 pub returns : goal.returns
 returns c =
-    let of_number = c.of_number-grid in
+    let of_number = c.from-grid in
     let mend = c.mend-answer in (
-      decoded_number c.args.word c.number-number.result of_number.result.rows mend.result c.ranges.word.fits
-          of_number.ensures.answer mend.ensures c.number-number.ensures.answer,
+      decoded_number c.args.word c.from.result of_number.result.rows mend.result c.ranges.word.fits
+          of_number.ensures.answer mend.ensures c.from.ensures.answer,
       c.counted-2.ensures
           ∙ ap₂ (counted c.args.self)
           (decoded_verdict c.args.word of_number.result.rows mend.result c.ranges.word.fits of_number.ensures.answer
