@@ -36,12 +36,6 @@ module _ (s : Checks) (p : ℕ) where
     no = λ e l q. some_set (mixed s (of_place p)) (sym n ∙ e) (none_left q);
   }
 
-  pub is_alone : Explained p s true → OnlyPlace s (Some p)
-  is_alone x = record {
-    sound = λ q e. subst (λ (z : ℕ). (z < 608) × (of_place z ≡ s)) (same_number e) (x.yes refl);
-    all = λ q e. cc;
-  }
-
   pub not_alone : Only s p → Explained p s false → OnlyPlace s None
   not_alone only x = record {
     sound = λ q e. cc;

@@ -10,7 +10,8 @@
 // The public function is a step of the block's calls, which accepts every input (specs/Steps.antt).
 #![tactic(auto)]
 
-ghost use Rattle.std.specs.Prelude.{◌≡◌, ◌⊎◌, ◌+◌, ◌*◌, ◌^◌, ◌≤◌, ◌<◌, ℕ};
+ghost use Rattle.std.specs.Prelude.{◌≡◌, ◌⊎◌, ◌+◌, ◌*◌, ◌^◌, ◌≤◌, ◌<◌, IfSome, None, Some};
+ghost use Rattle.std.specs.Option.{option_map};
 ghost use Rattle.std.specs.Int.Bits.{bit_xor};
 ghost use Rattle.std.specs.Int.Count.{count_trailing_zeros};
 ghost use Rattle.block_flips.specs.Steps.{lowest_of, Explained, OnlyPlace, Attempted, Guessed, in_order, Nearest};
@@ -18,39 +19,52 @@ ghost use Rattle.block_flips.specs.Steps.{lowest_of, Explained, OnlyPlace, Attem
 use block_code::Checks;
 use std::cmp::Ordering;
 
-// The places of the flips, of two the lower first. A place is a plain number, as `block_code::of_place` and `block_words::flip` take it: a
-// type for those below 608 would be no plainer, for each call and each pattern would take it apart.
+// The places of the flips, of two the lower first; plain numbers, as `block_words::flip` takes them.
 #[derive(Clone, Copy, Debug, PartialEq, Eq)]
 pub enum Flips {
     One(usize),
     Two(usize, usize),
 }
 
+// A place of the block: one of 512 of data, or of 96 checks.
+#[derive(Clone, Copy)]
+struct Place {
+    index: usize,
+    ghost below: { index < 608 },
+}
+
 // The data place at a row and a column, where there is one.
-fn place_at(row: u32, column: u32) -> Option<usize>
-    ensures place { row < 32 → column < 16 → result ≡ Some (16 * row + column) }
-    ensures below { (p : ℕ) → result ≡ Some p → p < 608 }
+fn place_at(row: u32, column: u32) -> Option<Place>
+    ensures { row < 32 → column < 16 → option_map (λ p. p.index) result ≡ Some (16 * row + column) }
 {
     if row >= 32 || column >= 16 {
         return None;
     }
-    Some((16 * row + column) as usize)
+    Some(Place {
+        index: (16 * row + column) as usize,
+    })
 }
 
-// The lowest check that is set, as a place; none where none of the 96 is.
-fn lowest(s: Checks) -> Option<usize>
-    ensures lowest { (p : ℕ) → result ≡ Some p → (p < 608) × (lowest_of s ≡ p) }
+// The lowest check that is set; none where none of the 96 is.
+fn lowest(s: Checks) -> Option<Place>
+    ensures lowest { IfSome result (λ p. lowest_of s ≡ p.index) }
     ensures none { result ≡ None → 608 ≤ lowest_of s }
 {
     if s.rows != 0 {
-        return Some((512 + s.rows.trailing_zeros()) as usize);
+        return Some(Place {
+            index: (512 + s.rows.trailing_zeros()) as usize,
+        });
     }
     if s.columns != 0 {
-        return Some((544 + s.columns.trailing_zeros()) as usize);
+        return Some(Place {
+            index: (544 + s.columns.trailing_zeros()) as usize,
+        });
     }
     let t = s.diagonals.trailing_zeros();
     if t < 48 {
-        return Some((560 + t) as usize);
+        return Some(Place {
+            index: (560 + t) as usize,
+        });
     }
     None
 }
@@ -68,24 +82,23 @@ fn second(x: u16) -> u32
 }
 
 // Whether a flip at `place` is all that s says.
-fn explains(place: usize, s: Checks) -> bool
-    requires { place < 608 }
-    ensures { Explained place s result }
+fn explains(place: Place, s: Checks) -> bool
+    ensures { Explained place.index s result }
 {
-    (s ^ block_code::of_place(place)).is_none()
+    (s ^ block_code::of_place(place.index)).is_none()
 }
 
 // The check that alone explains s, where there is one: for a syndrome with no row or no column.
-fn lone_check(s: Checks) -> Option<usize>
-    ensures { (count_trailing_zeros 32 s.rows ≡ 32) ⊎ (count_trailing_zeros 16 s.columns ≡ 16) → OnlyPlace s result }
+fn lone_check(s: Checks) -> Option<Place>
+    ensures { (count_trailing_zeros 32 s.rows ≡ 32) ⊎ (count_trailing_zeros 16 s.columns ≡ 16) → OnlyPlace s (option_map (λ p. p.index) result) }
 {
     let low = lowest(s)?;
     if explains(low, s) { Some(low) } else { None }
 }
 
 // The place that alone explains s, where there is one. With no row r is 32, and with no column c is 16.
-fn alone(s: Checks) -> Option<usize>
-    ensures { OnlyPlace s result }
+fn alone(s: Checks) -> Option<Place>
+    ensures { OnlyPlace s (option_map (λ p. p.index) result) }
 {
     let r = s.rows.trailing_zeros();
     let c = s.columns.trailing_zeros();
@@ -97,32 +110,30 @@ fn alone(s: Checks) -> Option<usize>
 }
 
 // Two places as flips, the lower first. The same place twice is no flip.
-fn in_order(p: usize, q: usize) -> Option<Flips>
-    ensures { result ≡ in_order p q }
+fn in_order(p: Place, q: Place) -> Option<Flips>
+    ensures { result ≡ in_order p.index q.index }
 {
-    match p.cmp(&q) {
-        Ordering::Less => Some(Flips::Two(p, q)),
-        Ordering::Greater => Some(Flips::Two(q, p)),
+    match p.index.cmp(&q.index) {
+        Ordering::Less => Some(Flips::Two(p.index, q.index)),
+        Ordering::Greater => Some(Flips::Two(q.index, p.index)),
         Ordering::Equal => None,
     }
 }
 
 // The place p tried as one of the flips.
-fn attempt(s: Checks, p: usize) -> Option<Flips>
-    requires { p < 608 }
-    ensures { Attempted s p result }
+fn attempt(s: Checks, p: Place) -> Option<Flips>
+    ensures { Attempted s p.index result }
 {
-    let rest = s ^ block_code::of_place(p);
+    let rest = s ^ block_code::of_place(p.index);
     if rest.is_none() {
-        return Some(Flips::One(p));
+        return Some(Flips::One(p.index));
     }
     in_order(p, alone(rest)?)
 }
 
 // The data place to guess: one of the flips, if one of them is a data place.
-fn chosen(s: Checks) -> Option<usize>
-    ensures guessed { Guessed s result }
-    ensures below { (p : ℕ) → result ≡ Some p → p < 608 }
+fn chosen(s: Checks) -> Option<Place>
+    ensures { Guessed s (option_map (λ p. p.index) result) }
 {
     let r = s.rows.trailing_zeros();
     let c = s.columns.trailing_zeros();
