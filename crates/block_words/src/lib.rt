@@ -11,7 +11,7 @@ ghost use Rattle.block_words.specs.Steps.{BlockWritten, SyndromeFound, Flipped};
 
 use block_code::Checks;
 
-// The six words that hold the checks.
+// The six words that hold the checks. By shifts, here and in `held`: the library takes a number apart into bytes, not into words.
 fn stored(k: Checks) -> [u16; 6]
     requires { k.diagonals < 2 ^ 48 }
     ensures { result ≡ check_words k }

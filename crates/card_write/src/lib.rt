@@ -21,9 +21,10 @@ fn head(bytes: &mut [u8], tag: Tag, n: usize)
     requires { (head_bytes ≤ length bytes.old) × (n < 65536) }
     ensures { bytes.new ≡ laid (head (byte_of tag) n) bytes.old }
 {
+    let [high, low] = (n as u16).to_be_bytes();
     bytes[0] = u8::from(tag);
-    bytes[1] = (n / 256 % 256) as u8;
-    bytes[2] = (n % 256) as u8;
+    bytes[1] = high;
+    bytes[2] = low;
 }
 
 // The grids of the numbers, one behind the other.
