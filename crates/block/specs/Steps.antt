@@ -15,7 +15,7 @@ flipped_each ws (Some (Two p q)) = flipped (flipped ws p) q
 flipped_each ws None = ws
 
 -- what is answered where these flips are undone
-abbrev pub answer_for : Option Flips → (Result BlockVerdict Refusal)
+abbrev pub answer_for : Option Flips → Result BlockVerdict Refusal
 answer_for (Some (One p)) = Ok (Mended 1)
 answer_for (Some (Two p q)) = Ok (Mended 2)
 answer_for None = Err LostBlock

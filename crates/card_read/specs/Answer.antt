@@ -4,5 +4,5 @@ use Rattle.refusals.specs.Reply.{Reply, reply}
 use Rattle.card_read.specs.declared.Lengths.{Lengths}
 use Rattle.refusals.specs.declared.Refusal.{Refusal}
 
-abbrev pub means : (Result Lengths Refusal) → Reply Lengths
+abbrev pub means : Result Lengths Refusal → Reply Lengths
 means r = reply r

@@ -4,5 +4,5 @@ use Rattle.refusals.specs.Reply.{Reply, reply}
 use Rattle.card_scrub.specs.declared.Tallies.{Tallies}
 use Rattle.refusals.specs.declared.Refusal.{Refusal}
 
-abbrev pub means : (Result Tallies Refusal) → Reply Tallies
+abbrev pub means : Result Tallies Refusal → Reply Tallies
 means r = reply r

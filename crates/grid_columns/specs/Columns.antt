@@ -27,7 +27,7 @@ pub record Agrees (rows aside y : ℕ) : Type 0 where
   pub few : 2 * sum_to 8 (wrong rows aside y) + sum_to 8 (row_of aside) ≤ 3
 
 -- that word, or that there is none
-abbrev pub Solves : ℕ → ℕ → (Option ℕ) → Type 0
+abbrev pub Solves : ℕ → ℕ → Option ℕ → Type 0
 Solves rows aside (Some y) = Agrees rows aside y
 Solves rows aside None = (y : ℕ) → Agrees rows aside y → ⊥
 

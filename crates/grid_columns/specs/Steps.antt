@@ -76,6 +76,6 @@ pub record Paired (even i j s : ℕ) : Type 0 where
   pub alone : InColumns even → s ≡ even
 
 -- the word, if its columns hold
-abbrev pub Tested : ℕ → (Option ℕ) → Type 0
+abbrev pub Tested : ℕ → Option ℕ → Type 0
 Tested rows (Some y) = (y ≡ rows) × InColumns rows
 Tested rows None = InColumns rows → ⊥

@@ -26,8 +26,9 @@ pub extern "C" fn block_scrub(words: &mut [u16], pattern: &mut [u16; 38]) -> u32
     ensures { BlockScrubbed words.old result words.new pattern.new }
 {
     let scrub = Block::scrub(words);
-    let flips = scrub.pattern;
-    *pattern = flips;
+    // By a variable: the check does not cover an array that is stored straight from a field.
+    let made = scrub.pattern;
+    *pattern = made;
     match scrub.answer {
         Ok(BlockVerdict::Clean) => 0,
         Ok(BlockVerdict::Mended { flips }) => flips,

@@ -12,7 +12,8 @@ use refusals::Refusal;
 
 mod blocks;
 
-// The grid of `value`: its number goes to `grid`, and 0 where it is refused. The number of the refusal is returned, and 0 where there is none.
+// The grid of `value`: its number goes to `grid`, and 0 where it is refused. The number of the refusal is returned, and 0 where there is
+// none.
 #[unsafe(no_mangle)]
 pub extern "C" fn grid_encode(value: u16, grid: &mut u64) -> u32
     ensures { GridEncoded value result grid.new }

@@ -23,7 +23,7 @@ abbrev pub packed : ℕ → ℕ → ℕ → ℕ
 packed number low high = number * 4294967296 + short high * 65536 + short low
 
 -- a number of the table, and its place, if there is one
-abbrev pub place_shown : (Option ℕ) → ℕ
+abbrev pub place_shown : Option ℕ → ℕ
 place_shown (Some at) = at
 place_shown None = 0
 
@@ -36,23 +36,23 @@ shown given (gives a) = given a
 shown given (refused k) = number_shown k
 
 -- What each gives: the grids and the blocks; ..
-abbrev pub check_shown : (Result Counts Refusal) → ℕ
+abbrev pub check_shown : Result Counts Refusal → ℕ
 check_shown a = shown (λ v. packed 0 v.grids v.blocks) (check_means a)
 
 -- .. nothing, since the tallies stand elsewhere; ..
-abbrev pub scrub_shown : (Result Tallies Refusal) → ℕ
+abbrev pub scrub_shown : Result Tallies Refusal → ℕ
 scrub_shown a = shown (λ t. packed 0 0 0) (scrub_means a)
 
 -- .. the bytes written; ..
-abbrev pub write_shown : (Result ℕ Refusal) → ℕ
+abbrev pub write_shown : Result ℕ Refusal → ℕ
 write_shown a = shown (λ k. packed 0 k 0) (write_means a)
 
 -- .. the title's length and the grids; ..
-abbrev pub read_shown : (Result Lengths Refusal) → ℕ
+abbrev pub read_shown : Result Lengths Refusal → ℕ
 read_shown a = shown (λ v. packed 0 v.title v.grids) (read_means a)
 
 -- .. the bytes of text.
-abbrev pub lines_shown : (Result ℕ Refusal) → ℕ
+abbrev pub lines_shown : Result ℕ Refusal → ℕ
 lines_shown a = shown (λ n. packed 0 n 0) (lines_means a)
 
 -- the six numbers of the grids and the five of the blocks, where tallies are given, ..

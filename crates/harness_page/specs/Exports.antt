@@ -8,12 +8,12 @@ use Rattle.page.specs.declared.Tally.{Tally}
 use Rattle.refusals.specs.declared.Refusal.{Refusal}
 
 -- the six numbers, where the scrub was done
-abbrev pub shown : (Result Tally Refusal) → List ℕ → List ℕ
+abbrev pub shown : Result Tally Refusal → List ℕ → List ℕ
 shown (Ok t) before = laid (t.grids ∷ t.clean ∷ t.blank ∷ t.mended ∷ t.lost ∷ t.flips ∷ []) before
 shown (Err why) before = before
 
 -- .. and its pattern
-abbrev pub pattern_shown : (Result Tally Refusal) → ℕ → ℕ
+abbrev pub pattern_shown : Result Tally Refusal → ℕ → ℕ
 pattern_shown (Ok t) before = t.pattern
 pattern_shown (Err why) before = before
 

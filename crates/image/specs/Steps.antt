@@ -13,7 +13,7 @@ use Rattle.image.specs.declared.Counts.{Counts}
 use Rattle.refusals.specs.declared.Refusal.{Refusal}
 
 -- what is found, with g grids and b blocks before it
-abbrev pub found_after : ℕ → ℕ → Found (List Part) → (Result Counts Refusal)
+abbrev pub found_after : ℕ → ℕ → Found (List Part) → Result Counts Refusal
 found_after g b (sound ps) = Ok (record { grids = g + length (grids_in ps); blocks = b + length (blocks_in ps) })
 found_after g b (broken at) = Err (Broken at)
 
@@ -28,7 +28,7 @@ title_size None = None
 -- ---- how far a walk has come
 
 -- what it finds from there on
-abbrev pub found_from : List ℕ → Progress → (Result Counts Refusal)
+abbrev pub found_from : List ℕ → Progress → Result Counts Refusal
 found_from image p = found_after p.grids p.blocks (walk p.left p.at (drop p.at image))
 
 -- it is inside the image, and has counted no more than it has passed

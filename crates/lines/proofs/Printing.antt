@@ -27,7 +27,7 @@ use Rattle.lines.specs.Steps.{lines_with}
 
 -- ---- what the lines are, by the answer of the scrub
 
-abbrev pub counted : Card → (Result Tallies Refusal)
+abbrev pub counted : Card → Result Tallies Refusal
 counted c = Ok (tallies_of c.parts)
 
 pub refused_lines : (s exit : List ℕ) (why : Refusal) → Scrubbed s (Err why) exit → lines_of s ≡ refused_line why

@@ -4,5 +4,5 @@ use Rattle.refusals.specs.Reply.{Reply, reply}
 use Rattle.refusals.specs.declared.Refusal.{Refusal}
 
 -- the bytes of text
-abbrev pub means : (Result ℕ Refusal) → Reply ℕ
+abbrev pub means : Result ℕ Refusal → Reply ℕ
 means r = reply r

@@ -60,7 +60,7 @@ blocks_line t =
     ++ bytes "\n"
 
 -- the place of a refusal, if there is one
-abbrev pub place_text : (Option ℕ) → List ℕ
+abbrev pub place_text : Option ℕ → List ℕ
 place_text (Some n) = labelled " at " n
 place_text None = []
 

@@ -40,7 +40,7 @@ struct Step {
 }
 
 impl Tally {
-    // That of no grids.
+    // That of no grids, what `Tally::default()` is: its own name stays, which the theorem `OneOutcome.none` speaks of.
     pub fn none() -> Tally
         ensures { NoGrids result }
     {

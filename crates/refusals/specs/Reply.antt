@@ -21,7 +21,7 @@ abbrev pub number_of : Number → ℕ
 number_of (bare n) = n
 number_of (placed n at) = n
 
-abbrev pub place_of : Number → (Option ℕ)
+abbrev pub place_of : Number → Option ℕ
 place_of (bare n) = None
 place_of (placed n at) = Some at
 

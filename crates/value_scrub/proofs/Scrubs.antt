@@ -199,7 +199,7 @@ other_block value r h none = let e = ne_eqb (length value) 76 h in record { answ
 -- ---- a block
 
 -- what a block's answer counts, ..
-abbrev pub of_answer : (Result BlockVerdict Refusal) → Blocks
+abbrev pub of_answer : Result BlockVerdict Refusal → Blocks
 of_answer (Ok Clean) = record { blocks = 1; clean = 1; mended = 0; lost = 0; flips = 0 }
 of_answer (Ok (Mended n)) = record { blocks = 1; clean = 0; mended = 1; lost = 0; flips = n }
 of_answer (Err why) = record { blocks = 1; clean = 0; mended = 0; lost = 1; flips = 0 }
