@@ -1,7 +1,7 @@
 # The public functions of a source file in Rattle without its comments, one to a line: the function, behind its type or behind `by`;
 # 'requires' where it has a precondition, or '-'; and for each `ensures` the record that it cites, or '-' where it is not one record alone.
 # What is `pub(crate)` is not public. A public trait's functions are public, and so is what a type has of a trait of the library, whose
-# contract is the ghost member that says what is given.
+# contract is the ghost member that says what is given. What a type has of a trait of our own is told where its contract cites a record.
 
 # the place of the brace that closes the one at i, or 0
 function closed(s, i,    depth, c) {
@@ -55,15 +55,16 @@ function whole(s,    i, c, depth, from, clause, end) {
         sub(/[^A-Za-z0-9_].*/, "", type)
     }
     shown = /^pub trait /
+    ours = / for /
     given = ""
 }
-/^}/ { type = shown = given = "" }
+/^}/ { type = shown = ours = given = "" }
 type != "" && /^    ghost [a-z_]*_gives = [{]/ {
     given = $0
     sub(/^[^{]*[{]/, "", given)
     sub(/[}];? *$/, "", given)
 }
-/^ *pub (extern "C" )?fn / || (shown && /^    fn /) || (given != "" && /^    fn /) {
+/^ *pub (extern "C" )?fn / || (shown && /^    fn /) || (ours && /^    fn /) {
     name = $0
     sub(/.*fn /, "", name)
     sub(/[^A-Za-z0-9_].*/, "", name)
@@ -74,7 +75,7 @@ type != "" && /^    ghost [a-z_]*_gives = [{]/ {
 open {
     head = head $0 " "
     if (whole(head)) {
-        print (type != "" ? type : by) "::" name " " needs said
+        if (!ours || said ~ /[A-Z]/) print (type != "" ? type : by) "::" name " " needs said
         open = 0
     }
 }

@@ -14,6 +14,7 @@ ghost use Rattle.card_write.specs.Calls.{card_with, size_written, none_erased, w
 ghost use Rattle.card_write.specs.Steps.{Fits};
 
 use fields::{HEAD, Tag};
+use grid::Grid;
 use refusals::Refusal;
 
 // A field's tag and length, high byte first.
@@ -34,7 +35,10 @@ fn grids(bytes: &mut [u8], numbers: &[u16])
 {
     // By ranges: no proof knows what a slice holds after `chunks_exact_mut`, or a zip on `iter_mut`.
     for (i, number) in numbers.iter().enumerate() {
-        bytes[8 * i..8 * (i + 1)].copy_from_slice(&grid_code::encoded(*number).to_le_bytes());
+        values::put_grid(
+            &mut bytes[8 * i..8 * (i + 1)],
+            Grid::from(grid_code::encoded(*number)),
+        );
     }
 }
 

@@ -135,6 +135,7 @@ fn of_tag(tag: Tag, value: &[u8]) -> Option<Field>
 }
 
 // The field at the front of a slice, or none: at least one rule fails there.
+#[tactic(auto, using(crate::proofs::Fields::past_end))]
 pub fn front(rest: &[u8]) -> Option<Field>
     ensures { Classified rest.now result }
 {

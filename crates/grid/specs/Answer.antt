@@ -1,5 +1,6 @@
 -- What the answers of decoder and encoder say: values, or a refusal (docs/FORMAT.md, Verdicts). Assumes nothing.
-use Rattle.std.specs.Prelude.{List, ℕ, Err, Ok, Result}
+use Rattle.std.specs.Prelude.{◌≡◌, List, ℕ, Err, Ok, Result}
+use Rattle.words.specs.Digits.{digits}
 use Rattle.refusals.specs.declared.Refusal.TheVariants.{LostGrid}
 use Rattle.refusals.specs.Reply.{Reply, gives, refusal}
 use Rattle.grid_code.specs.Verdict as grid_code
@@ -25,6 +26,10 @@ replied lost = refusal LostGrid
 
 abbrev pub means : Verdict → Reply grid_code.Verdict
 means v = replied (verdict_of v)
+
+-- What holds of `Grid::default`: no lamp is on.
+abbrev pub AllOff : Grid → Type 0
+AllOff g = g.rows ≡ digits 8 8 0
 
 -- What the encoder says: it gives the rows of the grid.
 abbrev pub encode_means : Result Grid Refusal → Reply (List ℕ)

@@ -1,5 +1,6 @@
 -- What each call of the crate promises: one record a call, which determines the answer. Assumes nothing.
 use Rattle.std.specs.Prelude.{◌≡◌, Bool, List, ℕ, eqb, Err, Ok, Result}
+use Rattle.std.specs.Result.{ResultUnwrapsOrElse}
 use Rattle.words.specs.Word.{choose}
 use Rattle.words.specs.Digits.{digits, joined}
 use Rattle.refusals.specs.declared.Refusal.TheVariants.{Erased}
@@ -10,14 +11,16 @@ use Rattle.grid_code.specs.Equations.{Codeword}
 use Rattle.grid_code.specs.Code.{codeword, code_of_grid}
 use Rattle.grid_code.specs.Sides.{sides}
 use Rattle.grid_code.specs.Verdict.{erased, grid_verdict}
-use Rattle.grid.specs.Answer.{verdict_of}
+use Rattle.grid.specs.Answer.{AllOff, verdict_of}
 use Rattle.grid.specs.declared.Answer.{Answer}
 use Rattle.grid.specs.declared.Grid.{Grid}
 use Rattle.refusals.specs.declared.Refusal.{Refusal}
 
--- `Grid::encode`: the grid of d, which meets the equations. The value 65,535, whose grid is all ones, is refused.
+-- `Grid::encode`: the grid of d, which meets the equations. The value 65,535, whose grid is all ones, is refused, and the grid that
+-- `unwrap_or_default` gives is then all zero.
 pub record Encoded (d : ℕ) (r : Result Grid Refusal) : Type 0 where
   pub answer : r ≡ choose (eqb d erased) (Err Erased) (Ok (record { rows = digits 8 8 (codeword d) }))
+  pub grid : (g : Grid) → ResultUnwrapsOrElse r AllOff g → g.rows ≡ digits 8 8 (choose (eqb d erased) 0 (codeword d))
   pub meets : (g : Grid) → r ≡ Ok g → Codeword d (joined 8 g.rows)
 
 -- `u64::from` of a grid: row r is byte r, lowest byte first.

@@ -26,6 +26,7 @@
 ghost use Rattle.codes.specs.Promises.{States};
 ghost use Rattle.grid_code.specs.Code.{code_of_grid};
 ghost use Rattle.grid_trials.specs.Steps.{Nearby};
+ghost use Rattle.grid.specs.Answer.{AllOff};
 ghost use Rattle.grid.specs.Calls.{Encoded, Numbered, Parted, Judged, Decoded};
 
 use grid_trials::Near;
@@ -34,6 +35,15 @@ use refusals::Refusal;
 #[derive(Clone, Copy, Debug, PartialEq, Eq, Hash)]
 pub struct Grid {
     pub rows: [u8; 8],
+}
+
+// All lamps off: the grid that `unwrap_or_default` gives where the encoder refuses.
+impl Default for Grid {
+    ghost is_default = { AllOff };
+
+    fn default() -> Grid {
+        Grid { rows: [0; 8] }
+    }
 }
 
 // The grid as a number.
@@ -84,7 +94,8 @@ impl Grid {
 
     pub const DISTANCE: u32 = 16;
 
-    // The grid of a data value. 65,535, whose grid is all ones, is refused. RADIUS, LENGTH and DISTANCE are the code's own.
+    // The grid of a data value. 65,535, whose grid is all ones, is refused, and `unwrap_or_default` is then all zero. RADIUS, LENGTH and
+    // DISTANCE are the code's own.
     pub fn encode(value: u16) -> Result<Grid, Refusal>
         ensures encoded { Encoded value result }
         ensures constants { States code_of_grid Grid.RADIUS Grid.LENGTH Grid.DISTANCE }

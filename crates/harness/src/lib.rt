@@ -18,15 +18,11 @@ mod blocks;
 pub extern "C" fn grid_encode(value: u16, grid: &mut u64) -> u32
     ensures { GridEncoded value result grid.new }
 {
-    match Grid::encode(value) {
-        Ok(encoded) => {
-            *grid = u64::from(encoded);
-            0
-        }
-        Err(why) => {
-            *grid = 0;
-            why.number()
-        }
+    let encoding = Grid::encode(value);
+    *grid = u64::from(encoding.unwrap_or_default());
+    match encoding {
+        Ok(_) => 0,
+        Err(why) => why.number(),
     }
 }
 

@@ -56,7 +56,7 @@ pub fn grids(value: &[u8], numbers: &mut [u16], flips: &mut [u8])
     }
     // By index: no proof knows what a slice holds after a zip on `iter_mut`.
     for (i, rows) in grids.iter().enumerate() {
-        let shown = show(Grid { rows: *rows });
+        let shown = show(values::grid(rows));
         numbers[i] = shown.number;
         flips[i] = shown.flips;
     }

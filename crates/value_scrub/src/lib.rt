@@ -9,7 +9,7 @@ ghost use Rattle.std.specs.Prelude.{◌≡◌, ◌*◌, ◌%◌, ◌<◌, ◌≤
 ghost use Rattle.page.specs.Calls.{most_grids};
 ghost use Rattle.page.specs.Steps.{later};
 ghost use Rattle.fields.specs.Fields.{grids_most, block_bytes};
-ghost use Rattle.value_scrub.specs.Steps.{NoBlocks, added, added_blocks, ScrubbedGrids, ScrubbedBlock, AnyGrids, AnyBlock};
+ghost use Rattle.value_scrub.specs.Steps.{NoBlocks, Added, added, added_blocks, ScrubbedGrids, ScrubbedBlock, AnyGrids, AnyBlock};
 ghost use Rattle.value_scrub.specs.Sums.{added_again, added_blocks_again};
 
 use block::{Block, BlockVerdict};
@@ -62,7 +62,9 @@ impl Count for Tally {
 
     ghost associative = { added_again };
 
-    fn plus(self, behind: Tally) -> Tally {
+    fn plus(self, behind: Tally) -> Tally
+        ensures { Added self behind result }
+    {
         Tally {
             grids: self.grids.wrapping_add(behind.grids),
             clean: self.clean.wrapping_add(behind.clean),

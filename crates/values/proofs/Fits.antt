@@ -1,10 +1,9 @@
 -- What each step does where the lengths fit. Assumes nothing.
 use mathlib.Core.Path.{◌≡◌, refl, sym, ap, ◌∙◌}
-use mathlib.Core.List.{List, ◌++◌, map}
+use mathlib.Core.List.{List, [], ◌++◌, map}
 use Prim.Native.Nat.{ℕ, zero, suc, ◌+◌, ◌-◌, ◌*◌, ◌/◌, ◌≤◌, ◌<◌}
-use native.Mathlib.Nat.{mul-div-le, mul-le-mul_left, mul-suc, not-suc-le-zero, le_of_suc-le-suc, div-div-eq-div-mul}
-use Rattle.std.specs.Int.{to_le_bytes, w64}
-use Rattle.std.proofs.lemmas.List.{map-set, length-map}
+use native.Mathlib.Nat.{mul-div-le, mul-le-mul_left, mul-suc, not-suc-le-zero, le_of_suc-le-suc}
+use Rattle.std.proofs.lemmas.List.{map-set, length-map, length-take-le, length-drop}
 use Rattle.words.specs.Digits.{digits, joined}
 use native.Mathlib.Numerals.{add-one}
 use native.Mathlib.Omega.{arith}
@@ -17,7 +16,7 @@ use Rattle.words.proofs.Bytes.{length-words, length-bytes, laid_all}
 use Rattle.words.proofs.Lists.{part_behind, part_back}
 use Rattle.words.proofs.Digits.{length_digits}
 use Rattle.words.proofs.Turns.{place_turn, word_turn}
-use Rattle.values.specs.Steps.{Copied, Taken, Put}
+use Rattle.values.specs.Steps.{FirstRows, Copied, Taken, Put}
 
 -- the front given back as a list of its length
 pub over_front : {front xs : List ℕ} {n : ℕ} (s : List ℕ) → front ≡ xs → length xs ≡ n → front ++ drop n s ≡ laid xs s
@@ -40,6 +39,25 @@ pub chunk_there : (k n m : ℕ) (bytes : List ℕ) (chunks : List (List ℕ)) (i
     → joined 8 (get_or chunks i d) ≡ get_or (words_in k m bytes) i 0
 chunk_there k n m bytes chunks i d e l r = ap (λ (cs : List (List ℕ)). joined 8 (get_or cs i d)) e ∙ chunk_at k n m bytes i d l r
 
+-- how long a chunk is, where there are bytes for all
+chunk_length : (k n : ℕ) (bytes : List ℕ) (i : ℕ) (d : List ℕ) → n * k ≤ length bytes → i < n → length (get_or (first_chunks k n bytes) i d) ≡ k
+chunk_length k zero bytes i d fits l = absurd (not-suc-le-zero l)
+chunk_length k (suc n) bytes zero d fits l = length-take-le k bytes (omega arith)
+chunk_length k (suc n) bytes (suc i) d fits l =
+    chunk_length k n (drop k bytes) i d (omega (arith, length-drop k bytes)) (le_of_suc-le-suc l)
+
+-- the rows of a grid, where there are bytes for them, ..
+pub rows_there : (bytes rows : List ℕ) → 8 ≤ length bytes → FirstRows bytes rows → rows ≡ take 8 bytes
+rows_there bytes rows h x = x.answer ∙ (rw (le-leb 8 (length bytes) h))
+
+-- .. and where these are a chunk
+pub rows_in_chunk : (n : ℕ) (bytes rows : List ℕ) (chunks : List (List ℕ)) (i : ℕ) → n * 8 ≤ length bytes → chunks ≡ first_chunks 8 n bytes → i < n
+    → FirstRows (get_or chunks i []) rows → rows ≡ get_or chunks i []
+rows_in_chunk n bytes rows chunks i fits e l x =
+    let chunk = get_or chunks i [] in
+    let long : length chunk ≡ 8 = ap (λ (cs : List (List ℕ)). length (get_or cs i [])) e ∙ chunk_length 8 n bytes i [] fits l in
+    rows_there chunk rows (omega arith) x ∙ take_all 8 chunk (omega arith)
+
 -- the next word put in its place
 pub next_put : (k : ℕ) (ws s t : List ℕ) (i : ℕ) (ys : List ℕ) → i < length ws → k * length ws ≤ length s
     → t ≡ laid (bytes_of k (take i ws)) s → ys ≡ digits 8 k (get_or ws i 0)
@@ -52,16 +70,16 @@ next_put k ws s t i ys more room e f =
     ∙ sym (part_back (k * i) t (laid next behind))
     ∙ word_turn k ws s t i (laid next behind) more room e (ap (laid next) (sym (part_behind (k * i) t)))
 
--- the bytes of a number of 64 bits, as std has them
-pub eight_bytes : (n : ℕ) → to_le_bytes w64 n ≡ digits 8 8 n
-eight_bytes n = simp div-div-eq-div-mul
-
 module _ (bytes to : List ℕ) where
   pub copied : length bytes ≤ length to → {exit : List ℕ} → exit ≡ laid bytes to → Copied bytes to exit
   copied h e = record { after = rw (le-leb (length bytes) (length to) h) e }
 
   pub copy_there : (exit : List ℕ) → length bytes ≤ length to → Copied bytes to exit → exit ≡ laid bytes to
   copy_there exit h x = x.after ∙ (rw (le-leb (length bytes) (length to) h))
+
+  -- where there is room and no more
+  pub copy_all : (exit : List ℕ) → length bytes ≡ length to → Copied bytes to exit → exit ≡ bytes
+  copy_all exit h x = copy_there exit (omega arith) x ∙ laid_all bytes to h
 
 module _ (k : ℕ) (bytes words : List ℕ) where
   pub taken : k * length words ≤ length bytes → {exit : List ℕ} → exit ≡ words_in k (length words) bytes → Taken k bytes words exit

@@ -30,12 +30,13 @@ returns-then-room-size c =
     let ns = c.args.numbers.now in
     let fits = allowed title ns (sym c.is_title_length.ensures.answer ∙ c.if-not-is_title_length.false) (omega arith) in
     no_room title ns c.args.room Err (Ok (size_written title ns)) fits (none_bad title c.in_default.ensures)
-    (sym c.none_erased.ensures ∙ c.if-not-none_erased.false) c.if-room-size.true
+    (sym c.none_erased.ensures ∙ c.if-not-none_erased.false) (omega arith)
 
 pub returns : goal.returns
 returns c =
     let title = c.args.title.now in
     let ns = c.args.numbers.now in
     let fits = allowed title ns (sym c.is_title_length.ensures.answer ∙ c.if-not-is_title_length.false) (omega arith) in
-    all_well title ns c.args.room Err (Ok (size_written title ns)) fits (none_bad title c.in_default.ensures)
-    (sym c.none_erased.ensures ∙ c.if-not-none_erased.false) c.if-room-size.false
+    ap (λ (n : ℕ). Ok n) (omega arith)
+    ∙ all_well title ns c.args.room Err (Ok (size_written title ns)) fits (none_bad title c.in_default.ensures)
+    (sym c.none_erased.ensures ∙ c.if-not-none_erased.false) (omega arith)

@@ -2,16 +2,8 @@
 use Rattle.std.proofs.Common.{◌≡◌, ◌+◌, ◌-◌, ◌≤◌, ℕ, List, length, take, drop, arith, refl, sym, ◌∙◌, ap}
 use Rattle.std.specs.Result.{result_ok}
 use Rattle.fields.specs.Fields.{tag, size}
-use Rattle.fields.proofs.Fields.{past_end, front_is, unknown, decoded}
+use Rattle.fields.proofs.Fields.{front_is, unknown, decoded}
 use Rattle.fields.proofs.front.Goals as goal
-
-pub returns-then-rest-lt-HEAD : goal.returns-then-rest-lt-HEAD
-returns-then-rest-lt-HEAD c = record { answer = sym (past_end c.args.rest.now (omega arith)) }
-
-pub returns-then-rest-end : goal.returns-then-rest-end
-returns-then-rest-end c =
-    let n : c.size-end.result ≡ size c.args.rest.now = c.size-end.ensures.0 in
-    record { answer = sym (past_end c.args.rest.now (omega arith)) }
 
 pub returns-in_err-ok : goal.returns-in_err-ok
 returns-in_err-ok c =

@@ -2,12 +2,13 @@
 use Rattle.std.proofs.Common.{[], ap, ◌∙◌, ◌/◌, ◌≤◌, ◌<◌, arith, map, length, set}
 use lib.ListN.{length-map}
 use lib.Seq.{take_all}
+use Rattle.words.specs.Digits.{joined}
 use Rattle.words.specs.Bytes.{laid}
 use Rattle.words.proofs.Bytes.{length-words, laid_none}
 use Rattle.words.proofs.Turns.{map_turn}
 use Rattle.values.specs.Steps.{grids_of}
 use Rattle.value_read.specs.Shown.{data_of_grid, flips_of_grid}
-use Rattle.values.proofs.Fits.{chunk_there}
+use Rattle.values.proofs.Fits.{rows_in_chunk, chunk_there}
 use Rattle.value_read.proofs.Room.{all_read}
 use Rattle.value_read.proofs.grids.Goals as goal
 
@@ -24,7 +25,10 @@ loop-i-preserved c =
     let more : l.i < length value / 8 = omega (arith, c.as_chunks.ensures.front_len) in
     let inside : l.i < length ws = omega (arith, more, length-words 8 (length value / 8) value) in
     let n = length value / 8 in
-    let at = chunk_there 8 n n value c.as_chunks.result.0.now l.i [] c.as_chunks.ensures.front more more in (
+    let chunks = c.as_chunks.result.0.now in
+    let front = c.as_chunks.ensures.front in
+    let rows = rows_in_chunk n value c.grid.result.rows chunks l.i (omega arith) front more c.grid.ensures in
+    let at = ap (joined 8) rows ∙ chunk_there 8 n n value chunks l.i [] front more more in (
       ap (λ t. set t l.i shown.result.number) l.invariant.0
           ∙ map_turn data_of_grid ws a.numbers.now l.i shown.result.number inside (omega arith) (shown.ensures.number_value ∙ ap data_of_grid at),
       ap (λ t. set t l.i shown.result.flips) l.invariant.1

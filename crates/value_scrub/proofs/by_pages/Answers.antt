@@ -27,6 +27,6 @@ loop-k-preserved c =
     let out : length page.new.value ≡ 8 * n = page.auto.value ∙ part ∙ all in
     let more =
     page_more value l.value at n m l.tally page.result c.plus-tally.result page.new.value c.requires.0 inside (omega arith) l.invariant.0
-    l.invariant.1 l.invariant.2 all out page.ensures (record { answer = c.plus-tally.ensures }) in
+    l.invariant.1 l.invariant.2 all out page.ensures c.plus-tally.ensures in
     let done = to_page_end value _ c.plus-tally.result (512 * (l.k + 1)) (at + 8 * n) (omega (arith, some, is)) more in
     (more.0, done.0, done.1)

@@ -21,12 +21,14 @@ use Rattle.grid.proofs.Grid.encode.Goals as goal
 refused : (d : ℕ) → d ≡ erased → Encoded d (Err Erased)
 refused d e = record {
   answer = rw (eq-eqb d erased e);
+  grid = λ g off. rw (eq-eqb d erased e) off;
   meets = λ g z. let n : ◌≡◌ {A = ℕ} 0 1 = cc in absurd (omega arith);
 }
 
 encoded : (d : ℕ) (grid : Grid) → d < 2 ^ 16 → d ≢ erased → grid.rows ≡ digits 8 8 (codeword d) → Encoded d (Ok grid)
 encoded d grid h ne e = record {
   answer = rw (ne_eqb d erased ne) (ap (λ rows. Ok (record { rows = rows })) e);
+  grid = λ g is. rw (ne_eqb d erased ne) (ap (λ (g : Grid). g.rows) is ∙ e);
   meets = λ g z.
       let same : grid ≡ g = cc in
       subst (λ (g : Grid). Codeword d (joined 8 g.rows)) same
