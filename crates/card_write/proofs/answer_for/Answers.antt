@@ -13,7 +13,7 @@ returns-in-Some c =
     let ns = c.args.numbers.now in
     let (here, few) = bad_there title c.in-Some.ensures in
     let fits = allowed title ns (sym c.is_title_length.ensures.answer ∙ c.if-not-is_title_length.false) (omega arith) in
-    ap (λ (n : ℕ). Err (Broken n)) here
+    ap (λ (n : ℕ). Err (Broken n)) (omega (arith, here))
     ∙ bad_byte title ns c.args.room Err (Ok (size_written title ns)) fits (λ e. omega (arith, e, few))
 
 pub returns-then-not-none_erased : goal.returns-then-not-none_erased
